@@ -1,0 +1,9 @@
+pub mod Lists
+pub mod Closure
+pub mod Unique
+pub mod Truths
+pub mod Shapes
+pub mod Step
+pub mod Starts
+pub mod Spanning
+pub mod Cheapest

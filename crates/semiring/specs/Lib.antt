@@ -1,0 +1,4 @@
+pub mod Semirings
+pub mod YesNos
+pub mod Counts
+pub mod Costs

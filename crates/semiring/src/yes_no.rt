@@ -1,0 +1,5 @@
+// Whether there is a derivation.
+#[derive(Clone, Copy)]
+pub struct YesNo {
+    pub value: bool,
+}

@@ -3,6 +3,7 @@ pub mod Closure
 pub mod Unique
 pub mod Truths
 pub mod Shapes
+pub mod Terms
 pub mod Step
 pub mod Starts
 pub mod Spanning

@@ -17,10 +17,10 @@ use Rattle.semiring.specs.Semirings.{Operations, Laws, sum, sumBelow}
 use Rattle.grammar.specs.Grammars.{Meaning, Shown, Declared}
 use Rattle.grammar.specs.Derivations.{Tree, leaf, node, has, Fits, DerivesEntries, leaves}
 use Rattle.grammar.specs.Totals.{TotalOf, weighed, weightOf}
-use Rattle.grammar.specs.Spans.{leafTerm, expansionTerm, ruleTerm, cellSum, inside}
+use Rattle.grammar.proofs.Terms.{leafTerm, expansionTerm, ruleTerm, cellSum}
 use Rattle.grammar.proofs.Truths.{true-of, not-both}
 use Rattle.grammar.proofs.Closure.{total-none, total-one, total-same, total-value, total-or, total-below, total-product}
-use Rattle.grammar.proofs.Shapes.{root, some-leaf, entries-length, root-rule, leaf-shape, leaf-made, node-shape, node-made}
+use Rattle.grammar.proofs.Shapes.{root, entries-length, root-rule, leaf-shape, leaf-made, node-shape, node-made}
 
 node-apart : (i : ℕ) (l l′ r r′ : Tree) → node i l r ≡ node i l′ r′ → (l ≡ l′) × (r ≡ r′)
 node-apart i l l′ r r′ e = (cc, cc)
@@ -87,12 +87,3 @@ module _ {S : Type 0} {s : Operations S} (laws : Laws s) (weigh : Rule → S) (m
         total-same laws (λ t h. h .2 .0)
         (λ t d. let h = root-rule m A (d .word) t (d .derives) in (root t, shown .rules (root t) (h .0) (h .1) .numbered, (d, refl)))
         (total-below laws (Rooted es) (λ i. ruleTerm s weigh A left right es (m .rule i)) (m .bound) (λ i _. rule-total i (m .rule i) refl) (λ i j t _ _ p q. sym (p .1) ∙ q .1))
-
-module _ {S : Type 0} {s : Operations S} (laws : Laws s) (weigh : Rule → S) (m : Meaning) (shown : Shown m) where
-  -- the sum over rules and cuts, all the way down
-  pub inside-total : (depth : ℕ) (es : List ℕ) (A : ℕ) → length es ≤ depth → TotalOf s (DerivesEntries m A es) (weightOf s weigh m) (inside s weigh m depth es A)
-  inside-total zero es A fits = total-none laws (weightOf s weigh m) (λ t d. let a = entries-length m A es t d in let b = some-leaf t in omega arith)
-  inside-total (suc depth) es A fits =
-      total-step laws weigh m shown A es (λ k B. inside s weigh m depth (take k es) B) (λ k C. inside s weigh m depth (drop k es) C)
-      (λ k B low high _. inside-total depth (take k es) B (let l = length-take k es in omega arith))
-      (λ k C low high _. inside-total depth (drop k es) C (let l = length-drop k es in omega arith))

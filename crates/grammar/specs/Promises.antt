@@ -1,8 +1,8 @@
 -- The theorems of sums. Assumes nothing.
 use mathlib.Core.Path.{_≡_}
 use mathlib.Core.List.{List}
-use Prim.Native.Nat.{ℕ, _+_, _*_, _-_, _<_, _≤_}
-use lib.ListN.{length, take, drop}
+use Prim.Native.Nat.{ℕ, _-_, _<_, _≤_}
+use lib.ListN.{length, getD}
 use Rattle.semiring.specs.Semirings.{Operations}
 use Rattle.semiring.specs.declared.cost.Cost.{Cost}
 use Rattle.semiring.specs.Costs.{cost}
@@ -10,31 +10,24 @@ use Rattle.grammar.specs.declared.rule.Rule.{Rule}
 use Rattle.grammar.specs.Grammars.{Meaning, Shown}
 use Rattle.grammar.specs.Derivations.{Tree, DerivesEntries, EntriesFromStarts}
 use Rattle.grammar.specs.Totals.{TotalOf, weightOf}
-use Rattle.grammar.specs.Spans.{cellSum, inside, startSum, span, Filled, Stands}
+use Rattle.grammar.specs.Spans.{span, shares, Filled, Stands, startSum, inside}
 use Rattle.grammar.specs.Costs.{byCost, costOf, Least}
 
--- if every shorter first part and rest has its total, the sum over rules and cuts is the total of the derivations from A
-abbrev pub StepIsTotal : {S : Type 0} → Operations S → Type 0
-StepIsTotal {S} s = (weigh : Rule → S) (m : Meaning) → Shown m → (A : ℕ) (es : List ℕ) (left right : ℕ → ℕ → S)
-    → ((k B : ℕ) → 0 < k → k < length es → B < m .nonterminals → TotalOf s (DerivesEntries m B (take k es)) (weightOf s weigh m) (left k B))
-    → ((k C : ℕ) → 0 < k → k < length es → C < m .nonterminals → TotalOf s (DerivesEntries m C (drop k es)) (weightOf s weigh m) (right k C))
-    → TotalOf s (DerivesEntries m A es) (weightOf s weigh m) (cellSum s weigh m A left right es)
-
--- so the sum over rules and cuts, all the way down, is the total
-abbrev pub InsideIsTotal : {S : Type 0} → Operations S → Type 0
-InsideIsTotal {S} s = (weigh : Rule → S) (m : Meaning) → Shown m → (es : List ℕ) (A : ℕ)
-    → TotalOf s (DerivesEntries m A es) (weightOf s weigh m) (inside s weigh m (length es) es A)
-
--- the same for cells: if each cell of a narrower span within (begin, end) is its total, the sum over rules and cuts is the total for (begin, end)
+-- if each cell of a narrower span within (begin, end) is its total, the sum over rules and cuts is the total for (begin, end)
 abbrev pub SpanIsTotal : {S : Type 0} → Operations S → Type 0
 SpanIsTotal {S} s = (weigh : Rule → S) (m : Meaning) → Shown m → (es : List ℕ) (cell : ℕ → ℕ → ℕ → S) (begin end A : ℕ) → begin < end → end ≤ length es
     → ((b e B : ℕ) → b < e → begin ≤ b → e ≤ end → e - b < end - begin → B < m .nonterminals → TotalOf s (DerivesEntries m B (span es b e)) (weightOf s weigh m) (cell b e B))
-    → TotalOf s (DerivesEntries m A (span es begin end)) (weightOf s weigh m)
-    (cellSum s weigh m A (λ k B. cell begin (begin + k) B) (λ k C. cell (begin + k) end C) (span es begin end))
+    → TotalOf s (DerivesEntries m A (span es begin end)) (weightOf s weigh m) (shares s cell weigh m (getD es (end - 1) 0) begin end A (m .bound))
 
--- cells that are the sums over rules and cuts of each other are totals
-abbrev pub FilledStands : {S : Type 0} → Operations S → Type 0
-FilledStands {S} s = (weigh : Rule → S) (m : Meaning) → Shown m → (es : List ℕ) (cell : ℕ → ℕ → ℕ → S) → Filled s weigh m es cell → Stands s weigh m es cell
+-- cells stand exactly where they are filled
+pub record FilledStands {S : Type 0} (s : Operations S) : Type 0 where
+  pub stands : (weigh : Rule → S) (m : Meaning) → Shown m → (es : List ℕ) (cell : ℕ → ℕ → ℕ → S) → Filled s weigh m es cell → Stands s weigh m es cell
+  pub filled : (weigh : Rule → S) (m : Meaning) → Shown m → (es : List ℕ) (cell : ℕ → ℕ → ℕ → S) → Stands s weigh m es cell → Filled s weigh m es cell
+
+-- the sum over rules and cuts, worked out all the way down, is the total of all derivations from A
+abbrev pub InsideIsTotal : {S : Type 0} → Operations S → Type 0
+InsideIsTotal {S} s = (weigh : Rule → S) (m : Meaning) → Shown m → (es : List ℕ) (A : ℕ)
+    → TotalOf s (DerivesEntries m A es) (weightOf s weigh m) (inside s weigh m es (length es) 0 (length es) A)
 
 -- the sum over the starts is the total of the derivations from all starts
 abbrev pub StartsAreTotal : {S : Type 0} → Operations S → Type 0
@@ -51,10 +44,9 @@ pub record TotalIsUnique {S : Type 0} (s : Operations S) : Type 0 where
 
 -- all of these
 pub record SumsAreTotals {S : Type 0} (s : Operations S) : Type 0 where
-  pub step : StepIsTotal s
-  pub whole : InsideIsTotal s
   pub spans : SpanIsTotal s
   pub filled : FilledStands s
+  pub whole : InsideIsTotal s
   pub starts : StartsAreTotal s
   pub unique : TotalIsUnique s
 

@@ -1,0 +1,9 @@
+pub mod Places
+pub mod Wiped
+pub mod Adding
+pub mod Rows
+pub mod ColumnSteps
+pub mod Standing
+pub mod Listing
+pub mod Calls
+pub mod Totalling

@@ -1,0 +1,18 @@
+-- The entries of a chart as bits, when one is added, removed or replaced. Assumes nothing.
+use mathlib.Core.Path.{_≡_, refl, sym, ap, _∙_}
+use mathlib.Core.List.{List, [], _∷_, _++_, map, map-append}
+use Prim.Native.Nat.{ℕ, zero, suc, _+_, _-_, _<_, _≤_}
+use native.Mathlib.Omega.{arith}
+use lib.ListN.{length, take, set, getD}
+use lib.Seq.{take-take, take-set-lt}
+use Rattle.std.proofs.shelf.Lists.{length-take-le, take-more-set, length-map}
+use Rattle.chart.specs.declared.entry.Entry.{Entry}
+use Rattle.chart.specs.declared.entries.Entries.{Entries}
+use Rattle.chart.specs.Model.{State, state, bitsOf, butLast}
+
+-- as many as are in use
+pub size : (e : Entries) → length (state e .entries) ≡ e .count
+size e = length-map (take (e .count) (e .list)) bitsOf ∙ length-take-le (e .count) (e .list) (omega (arith, e .few, e .long))
+
+pub pushed : (list : List Entry) (count : ℕ) (x : Entry) → count < length list → map bitsOf (take (count + 1) (set list count x)) ≡ map bitsOf (take count list) ++ (x .bits ∷ [])
+pushed list count x h = ap (map bitsOf) (take-more-set list count x h) ∙ map-append bitsOf (take count list) (x ∷ [])

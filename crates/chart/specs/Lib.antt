@@ -1,0 +1,4 @@
+pub mod Cells
+pub mod Columns
+pub mod Model
+pub mod Reads

@@ -10,7 +10,7 @@ use Rattle.std.specs.Results.{Cases}
 use Rattle.grammar.specs.declared.refusal.Refusal.{Refusal}
 use Rattle.chart.specs.declared.entries.Entries.{Entries}
 use Rattle.chart.specs.declared.call.Call.{Call}
-use Rattle.chart.specs.Model.{State, state, Terms, Test, verdict, entryTests, answer, after, does, step, Did}
+use Rattle.chart.specs.Model.{State, state, Terms, Test, verdict, entryTests, replaceTests, answer, after, does, step, Did}
 use Rattle.chart.proofs.Listing.{size}
 
 -- an accepted call took e to f
@@ -28,3 +28,6 @@ entry-verdict t e bits r said = ap (λ n. verdict (entryTests t n (e .trial) bit
 -- what a call did where it was refused
 pub on-err : {T : Type 0} (P : T → Type 0) (Q : Refusal → Type 0) (r : Result T Refusal) (why : Refusal) → r ≡ Err why → Q why → Cases r P Q
 on-err P Q r why is q = subst (λ x. Cases x P Q) (sym is) q
+
+pub replace-verdict : (t : Terms) (e : Entries) (k bits : ℕ) (r : Result (Unit {0}) Refusal) → verdict (replaceTests t (e .count) (e .trial) k bits) ≡ r → verdict (replaceTests t (length (state e .entries)) (e .trial) k bits) ≡ r
+replace-verdict t e k bits r said = ap (λ n. verdict (replaceTests t n (e .trial) k bits)) (size e) ∙ said

@@ -7,3 +7,6 @@ pub mod Standing
 pub mod Listing
 pub mod Calls
 pub mod Totalling
+pub mod Fewer
+pub mod Refills
+pub mod Replacing

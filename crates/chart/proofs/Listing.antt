@@ -5,7 +5,7 @@ use Prim.Native.Nat.{ℕ, zero, suc, _+_, _-_, _<_, _≤_}
 use native.Mathlib.Omega.{arith}
 use lib.ListN.{length, take, set, getD}
 use lib.Seq.{take-take, take-set-lt}
-use Rattle.std.proofs.shelf.Lists.{length-take-le, take-more-set, length-map}
+use Rattle.std.proofs.shelf.Lists.{length-take-le, take-more-set, length-map, take-map, map-set}
 use Rattle.chart.specs.declared.entry.Entry.{Entry}
 use Rattle.chart.specs.declared.entries.Entries.{Entries}
 use Rattle.chart.specs.Model.{State, state, bitsOf, butLast}
@@ -16,3 +16,12 @@ size e = length-map (take (e .count) (e .list)) bitsOf ∙ length-take-le (e .co
 
 pub pushed : (list : List Entry) (count : ℕ) (x : Entry) → count < length list → map bitsOf (take (count + 1) (set list count x)) ≡ map bitsOf (take count list) ++ (x .bits ∷ [])
 pushed list count x h = ap (map bitsOf) (take-more-set list count x h) ∙ map-append bitsOf (take count list) (x ∷ [])
+
+pub shorter : (e : Entries) → map bitsOf (take (e .count - 1) (e .list)) ≡ butLast (state e .entries)
+shorter e =
+    sym (ap (λ k. take (k - 1) (state e .entries)) (size e)
+      ∙ take-map bitsOf (e .count - 1) (take (e .count) (e .list))
+      ∙ ap (map bitsOf) (take-take (e .count - 1) (e .count) (e .list) (omega arith)))
+
+pub swapped : (list : List Entry) (count k : ℕ) (x : Entry) → k < count → map bitsOf (take count (set list k x)) ≡ set (map bitsOf (take count list)) k (x .bits)
+swapped list count k x h = ap (map bitsOf) (take-set-lt count list k x h) ∙ map-set bitsOf (take count list) k x

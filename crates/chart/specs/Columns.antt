@@ -36,3 +36,10 @@ pub record Column {S : Type 0} (s : Operations S) (weigh : Rule → S) (m : Mean
   pub cells : (b a : ℕ) → from ≤ b → b < upto → a < m .nonterminals
     → cellAt s (m .nonterminals) ys b end a ≡ shares s (cellAt s (m .nonterminals) ys) weigh m last b end a (m .bound)
   pub zeros : (b a : ℕ) → b < from → b < upto → a < m .nonterminals → cellAt s (m .nonterminals) ys b end a ≡ s .zero
+
+-- Of the spans with an end from k + 1 to `past` - 1, those that cover entry k have in each cell the sum over all rules and cuts, where es are the entries;
+-- all slots of other spans stay.
+pub record Refilled {S : Type 0} (s : Operations S) (weigh : Rule → S) (m : Meaning) (es : List ℕ) (k past : ℕ) (xs ys : List S) : Type 0 where
+  pub kept : (q : ℕ) → ((f : ℕ) → k < f → f < past → (q < place (m .nonterminals) 0 f 0) ⊎ (place (m .nonterminals) (k + 1) f 0 ≤ q)) → getD ys q (s .zero) ≡ getD xs q (s .zero)
+  pub cells : (b f a : ℕ) → b ≤ k → k < f → f < past → a < m .nonterminals
+    → cellAt s (m .nonterminals) ys b f a ≡ shares s (cellAt s (m .nonterminals) ys) weigh m (getD es (f - 1) 0) b f a (m .bound)

@@ -129,6 +129,11 @@ pub record Did (t : Terms) (e : Entries) (call : Call) (r : Result (Unit {0}) Re
   pub moved : state f ≡ step t (state e) call
   pub own : f .nonterminals ≡ e .nonterminals
 
+-- the answer without what an accepted call hands out
+abbrev pub plain : {T : Type 0} → Result T Refusal → Result (Unit {0}) Refusal
+plain (Ok x) = Ok tt
+plain (Err why) = Err why
+
 -- tests with the verdict v let bits through as an entry, or refuse them
 abbrev pub Admits : Result (Unit {0}) Refusal → ℕ → Result Entry Refusal → Type 0
 Admits v bits (Ok e) = (v ≡ Ok tt) × (e .bits ≡ bits)

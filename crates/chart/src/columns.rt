@@ -1,10 +1,12 @@
 // Filling the spans that end at one place, narrow ones first.
 ghost use mathlib.Core.Path.{_≡_};
-ghost use Prim.Native.Nat.{ℕ, _<_, _≤_};
+ghost use mathlib.Core.List.{map};
+ghost use Prim.Native.Nat.{ℕ, _+_, _<_, _≤_};
 ghost use lib.ListN.{length, replicate};
 ghost use Rattle.grammar.specs.Totals.{by};
 ghost use Rattle.chart.specs.Cells as cells;
 ghost use Rattle.chart.specs.Columns as columns;
+ghost use Rattle.chart.specs.Model.{bitsOf};
 use super::cells::add_rule;
 use super::cells::place;
 use super::entry::Entry;
@@ -67,5 +69,16 @@ pub(crate) fn fill_column<G: Grammar, W: Weighing>(slots: &mut [W::Value], gramm
     clear_column(slots, grammar.nonterminals() as usize, upto, end);
     for begin in (0..upto).rev() {
         fill_row(slots, grammar, weighing, begin, end, last);
+    }
+}
+
+// Fills anew the spans that cover entry `k`, of those that the entries have.
+pub(crate) fn refill<G: Grammar, W: Weighing>(slots: &mut [W::Value], grammar: &G, weighing: &W, entries: &[Entry], k: usize)
+    requires room { ⌜ cells.Room (meaning (now grammar) .nonterminals) (length (now entries)) (length (now slots)) ⌝ }
+    requires entry { ⌜ k < length (now entries) ⌝ }
+    ensures { λ _. ⌜ columns.Refilled (Value·Semiring .ring) (by (weight (now (weighing .entry)))) (meaning (now (grammar .entry))) (map bitsOf (now (entries .entry))) k (length (now (entries .entry)) + 1) (now (slots .entry)) (now (slots .exit)) ⌝ }
+{
+    for end in k + 1..entries.len() + 1 {
+        fill_column(slots, grammar, weighing, k + 1, end, entries[end - 1]);
     }
 }

@@ -2,9 +2,13 @@
 pub mod entry;
 pub mod entries;
 pub mod call;
+pub mod trial;
 pub mod slots;
 pub mod chart;
 mod cells;
 mod columns;
 mod appends;
+mod replaces;
+mod trials;
+mod edits;
 mod reads;

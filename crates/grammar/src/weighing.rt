@@ -27,7 +27,7 @@ pub impl Weighing for CostWeighing as CostWeighingWeighing {
     ghost weight = { λ _ cost _. costing cost };
 
     fn weigh(&self, rule: &Rule) -> Cost {
-        Cost { value: u32::from(rule.cost) }
+        Cost::new(u32::from(rule.cost))
     }
 }
 

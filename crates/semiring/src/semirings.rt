@@ -4,10 +4,30 @@ ghost use Prim.Native.Nat.{_*_, _-_, _^_, min};
 ghost use Rattle.semiring.specs.YesNos.{yes-no};
 ghost use Rattle.semiring.specs.Counts.{count};
 ghost use Rattle.semiring.specs.Costs.{cost};
+ghost use Rattle.semiring.specs.declared.cost.Cost.{Cost};
+ghost use Rattle.semiring.specs.declared.count.Count.{Count};
 use super::cost::Cost;
 use super::count::Count;
 use super::semiring::Semiring;
 use super::yes_no::YesNo;
+
+impl Count {
+    // The count with this value.
+    pub fn new(value: u64) -> Count
+        ensures { λ r. ⌜ ((c : Count) → c .value ≡ value → r ≡ c) ⌝ }
+    {
+        Count { value }
+    }
+}
+
+impl Cost {
+    // The cost with this value; 2^32 - 1 is "none".
+    pub fn new(value: u32) -> Cost
+        ensures { λ r. ⌜ ((c : Cost) → c .value ≡ value → r ≡ c) ⌝ }
+    {
+        Cost { value }
+    }
+}
 
 pub impl Semiring for YesNo as YesNoSemiring {
     ghost ring = { yes-no };
@@ -41,19 +61,19 @@ pub impl Semiring for Count as CountSemiring {
     ghost ring = { count };
 
     fn zero() -> Count {
-        Count { value: 0 }
+        Count::new(0)
     }
 
     fn one() -> Count {
-        Count { value: 1 }
+        Count::new(1)
     }
 
     fn add(self, other: Count) -> Count {
-        Count { value: self.value.saturating_add(other.value) }
+        Count::new(self.value.saturating_add(other.value))
     }
 
     fn mul(self, other: Count) -> Count {
-        Count { value: capped_product(self.value, other.value) }
+        Count::new(capped_product(self.value, other.value))
     }
 }
 
@@ -61,18 +81,18 @@ pub impl Semiring for Cost as CostSemiring {
     ghost ring = { cost };
 
     fn zero() -> Cost {
-        Cost { value: u32::MAX }
+        Cost::new(u32::MAX)
     }
 
     fn one() -> Cost {
-        Cost { value: 0 }
+        Cost::new(0)
     }
 
     fn add(self, other: Cost) -> Cost {
-        Cost { value: self.value.min(other.value) }
+        Cost::new(self.value.min(other.value))
     }
 
     fn mul(self, other: Cost) -> Cost {
-        Cost { value: self.value.saturating_add(other.value) }
+        Cost::new(self.value.saturating_add(other.value))
     }
 }

@@ -1,4 +1,3 @@
-use borrow.Author.Needs.{needs}
 use native.Mathlib.Omega.{arith}
 use Rattle.grammar.specs.Derivations.{DerivesEntries, EntriesFromStarts}
 use Rattle.grammar.proofs.Cheapest.{total-least, entries-bound}
@@ -6,7 +5,7 @@ use Rattle.grammar.proofs.promises.highest_cost.Needs as need
 
 pub returns : need.returns
 returns c = record {
-  is = search needs;
+  is = c .cost-of-nodes .ensures;
   most = λ m shown A es t long d. omega (arith, entries-bound m shown A es t d);
   least = record {
     from-each = λ weigh m es A v. total-least weigh m (DerivesEntries m A es) v;

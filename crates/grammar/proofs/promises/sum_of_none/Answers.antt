@@ -8,7 +8,7 @@ pub returns : need.returns
 returns g c =
     let laws = g .S·Semiring·met .laws in
     record {
-      zero = c .zero .ensures;
+      zero = c .zero-of .ensures;
       sums = record {
         spans = λ weigh m shown. span-step laws weigh m shown;
         filled = record {

@@ -1,6 +1,0 @@
-use mathlib.Core.Path.{refl}
-use Rattle.semiring.proofs.CostLaws.{same}
-use Rattle.semiring.proofs.semirings.CostSemiring.zero.Needs as need
-
-pub returns : need.returns
-returns c = same _ _ refl

@@ -5,7 +5,7 @@ use Prim.Native.Nat.{ℕ, zero, suc, _+_, _-_, _<_, _≤_}
 use native.Mathlib.Omega.{arith}
 use lib.ListN.{length, take, set, getD}
 use lib.Seq.{take-take, take-set-lt}
-use Rattle.std.proofs.shelf.Lists.{length-take-le, take-more-set, length-map, take-map, map-set}
+use Rattle.std.proofs.shelf.Lists.{length-take-le, take-more-set, length-map, take-map, map-set, getD-map, getD-take}
 use Rattle.chart.specs.declared.entry.Entry.{Entry}
 use Rattle.chart.specs.declared.entries.Entries.{Entries}
 use Rattle.chart.specs.Model.{State, state, bitsOf, butLast}
@@ -25,3 +25,9 @@ shorter e =
 
 pub swapped : (list : List Entry) (count k : ℕ) (x : Entry) → k < count → map bitsOf (take count (set list k x)) ≡ set (map bitsOf (take count list)) k (x .bits)
 swapped list count k x h = ap (map bitsOf) (take-set-lt count list k x h) ∙ map-set bitsOf (take count list) k x
+
+-- the entry at a place in use
+pub at-place : (e : Entries) (k : ℕ) (x : Entry) → k < e .count → getD (e .list) k x .bits ≡ getD (state e .entries) k 0
+at-place e k x h =
+    let long : length (take (e .count) (e .list)) ≡ e .count = length-take-le (e .count) (e .list) (omega (arith, e .few, e .long)) in
+    sym (getD-map bitsOf (take (e .count) (e .list)) k x 0 (omega arith) ∙ ap bitsOf (getD-take (e .count) (e .list) k x h))

@@ -1,8 +1,9 @@
 // Making a chart, and what it answers.
 ghost use mathlib.Core.Path.{_≡_};
-ghost use Prim.Native.Nat.{ℕ};
+ghost use Prim.Native.Nat.{ℕ, _<_, _≤_};
 ghost use denote.Ref.{name};
-ghost use lib.ListN.{length};
+ghost use lib.ListN.{length, getD};
+ghost use Rattle.std.specs.Options.{Cases as BySome};
 ghost use Rattle.std.specs.Results.{Cases};
 ghost use Rattle.grammar.specs.Totals.{TotalOf, weightOf, by};
 ghost use Rattle.grammar.specs.Derivations.{EntriesFromStarts};
@@ -26,6 +27,34 @@ impl<'a, S: Semiring> Chart<'a, S> {
     {
         let entries = Entries { list: [Entry::first_code(); 64], count: 0, trial: false, nonterminals: grammar.nonterminals() };
         Chart { slots: Slots { cells: slots }, entries }
+    }
+
+    // How many nonterminals the chart was made for.
+    pub fn nonterminals(&self) -> u32
+        ensures { λ r. ⌜ r ≡ now (self .entry) .entries .nonterminals ⌝ }
+    {
+        self.entries.nonterminals
+    }
+
+    // How many entries there are.
+    pub fn len(&self) -> usize
+        ensures { λ r. ⌜ r ≡ length (state (now (self .entry) .entries) .entries) ⌝ }
+    {
+        self.entries.count
+    }
+
+    // The entry at a place, if there is one.
+    pub fn entry(&self, place: usize) -> Option<Entry>
+        ensures { λ r. ⌜ BySome r (length (state (now (self .entry) .entries) .entries) ≤ place) (λ e. (place < length (state (now (self .entry) .entries) .entries)) × (e .bits ≡ getD (state (now (self .entry) .entries) .entries) place 0)) ⌝ }
+    {
+        if place < self.entries.count { Some(self.entries.list[place]) } else { None }
+    }
+
+    // Whether a trial is open.
+    pub fn trial_open(&self) -> bool
+        ensures { λ r. ⌜ r ≡ state (now (self .entry) .entries) .trial ⌝ }
+    {
+        self.entries.trial
     }
 
     // The value of the cell of a nonterminal and the span from `begin` to `end`, if that is in use.

@@ -63,11 +63,7 @@ impl<'a, S: Semiring> Chart<'a, S> {
         ensures same { λ _. ⌜ now (now (self .exit) .slots .cells) ≡ now (now (self .entry) .slots .cells) ⌝ }
         ensures named { λ _. ⌜ name (now (self .exit) .slots .cells) ≡ name (now (self .entry) .slots .cells) ⌝ }
     {
-        trial.spend();
-        if !self.entries.trial {
-            return Err(Refusal::NoTrial);
-        }
-        self.entries.trial = false;
+        self.keep(trial)?;
         self.entries.count = self.entries.count.saturating_sub(1);
         Ok(())
     }

@@ -1,0 +1,3 @@
+// Runs of calls: what is promised of a chart after every list of calls, accepted or refused.
+pub mod replay;
+mod perform;

@@ -36,6 +36,13 @@ impl<'a, S: Semiring> Chart<'a, S> {
         self.entries.nonterminals
     }
 
+    // The entries and the mark, as they are now.
+    pub fn entries(&self) -> Entries
+        ensures { λ r. ⌜ r ≡ now (self .entry) .entries ⌝ }
+    {
+        self.entries
+    }
+
     // How many entries there are.
     pub fn len(&self) -> usize
         ensures { λ r. ⌜ r ≡ length (state (now (self .entry) .entries) .entries) ⌝ }

@@ -31,15 +31,15 @@ use Rattle.grammar.proofs.Unique.{total-unique}
 pub span-length : (es : List ℕ) (begin end : ℕ) → end ≤ length es → length (span es begin end) ≡ end - begin
 span-length es begin end h = let a = length-take (end - begin) (drop begin es) in let b = length-drop begin es in omega arith
 
-span-front : (es : List ℕ) (begin end k : ℕ) → k ≤ end - begin → take k (span es begin end) ≡ span es begin (begin + k)
+pub span-front : (es : List ℕ) (begin end k : ℕ) → k ≤ end - begin → take k (span es begin end) ≡ span es begin (begin + k)
 span-front es begin end k h = take-take k (end - begin) (drop begin es) h ∙ ap (λ n. take n (drop begin es)) (omega arith)
 
-span-back : (es : List ℕ) (begin end k : ℕ) → k ≤ end - begin → drop k (span es begin end) ≡ span es (begin + k) end
+pub span-back : (es : List ℕ) (begin end k : ℕ) → k ≤ end - begin → drop k (span es begin end) ≡ span es (begin + k) end
 span-back es begin end k h =
     let split : end - begin ≡ k + (end - (begin + k)) = omega arith in
     ap (λ n. drop k (take n (drop begin es))) split ∙ drop-take k (end - (begin + k)) (drop begin es) ∙ ap (take (end - (begin + k))) (drop-drop k begin es)
 
-span-one : (es : List ℕ) (begin : ℕ) → begin < length es → span es begin (begin + 1) ≡ getD es begin 0 ∷ []
+pub span-one : (es : List ℕ) (begin : ℕ) → begin < length es → span es begin (begin + 1) ≡ getD es begin 0 ∷ []
 span-one es begin h =
     let one : begin + 1 - begin ≡ 1 = omega arith in
     ap (λ n. take n (drop begin es)) one ∙ ap (take 1) (drop-cons es begin 0 h)

@@ -1,10 +1,9 @@
 -- One rule more. Assumes nothing.
-use mathlib.Core.Path.{_≡_, refl, sym, ap, subst, _∙_}
+use mathlib.Core.Path.{_≡_, refl, sym, ap, _∙_}
 use mathlib.Core.Bool.{Bool, true, false, _&&_, cond}
 use mathlib.Core.List.{List, [], _∷_, _++_, map}
 use Prim.Native.Nat.{ℕ, _+_, _<_, _≤_}
 use native.Mathlib.Omega.{arith}
-use native.Mathlib.Nat.{zero-add}
 use lib.Dec.{ltb}
 use lib.ListN.{length, take, set, length-map}
 use Rattle.std.proofs.shelf.Lists.{take-more-set, length-take-le, map-push}
@@ -16,11 +15,8 @@ use Rattle.grammar.specs.declared.refusal.Refusal.the-variants.{NoRow, Undeclar
 use Rattle.grammar.specs.declared.rule.Rule.{Rule}
 use Rattle.grammar.specs.declared.rule.Expansion.{Expansion}
 use Rattle.table.specs.Drafts.{Drafted, refusalOf, numberUnless, answer}
-use Rattle.table.specs.Tables.{Added, numbered, asAdded, isDeclared, fine, allFine}
-use Rattle.table.specs.Laws.Shown.{fine-from, all-push}
-
-no-some : {X : Type 0} {x : X} → None ≡ Some x → ⊥
-no-some e = let z : _≡_ {A = ℕ} 0 1 = cc in omega arith
+use Rattle.table.specs.Tables.{Added, numbered, asAdded, isDeclared, allFine}
+use Rattle.table.specs.Laws.Shown.{no-some, fine-from, all-push}
 
 -- as many rules were added as rows are filled
 pub count-is : (rows : List Rule) (count : ℕ) → count ≤ length rows → length (map asAdded (take count rows)) ≡ count

@@ -1,6 +1,6 @@
 -- A table grammar shows what every grammar must show; and reading one row is reading one rule. Assumes nothing.
 use mathlib.Core.Path.{_≡_, refl, sym, ap, subst, _∙_}
-use mathlib.Core.Bool.{Bool, true, false, _&&_}
+use mathlib.Core.Bool.{true, _&&_}
 use mathlib.Core.List.{List, [], _∷_, _++_, map}
 use Prim.Native.Nat.{ℕ, zero, suc, _+_, _<_, _≤_}
 use native.Mathlib.Nat.{le-of-suc-le-suc, add-zero}
@@ -8,16 +8,15 @@ use native.Mathlib.Omega.{arith}
 use lib.Dec.{eqb, ltb, leb}
 use lib.ListN.{length, getD, length-map}
 use Rattle.std.proofs.shelf.Tests.{ltb-true, leb-true, eqb-true, le-leb, eq-eqb, and-parts, and-from}
-use Rattle.std.specs.declared.option.Option.{Option}
 use Rattle.std.specs.declared.option.Option.the-variants.{Some, None}
 use Rattle.grammar.specs.declared.rule.Rule.{Rule}
 use Rattle.grammar.specs.declared.rule.Expansion.{Expansion}
 use Rattle.grammar.specs.declared.rule.Expansion.the-variants.{Pair, Leaf}
 use Rattle.grammar.specs.Grammars.{Meaning, Declared, Shown}
-use Rattle.table.specs.Tables.{Added, numbered, nth, ruleOf, names, isDeclared, asAdded, fine, allFine, tableMeaning}
+use Rattle.table.specs.Tables.{numbered, nth, ruleOf, names, isDeclared, asAdded, fine, allFine, tableMeaning}
 
-no-some : {X : Type 0} (x : X) → None ≡ Some x → ⊥
-no-some x e = let z : _≡_ {A = ℕ} 0 1 = cc in omega arith
+pub no-some : {X : Type 0} {x : X} → None ≡ Some x → ⊥
+no-some e = let z : _≡_ {A = ℕ} 0 1 = cc in omega arith
 
 -- what a fine row says
 pub record Fine (n t i : ℕ) (r : Rule) : Type 0 where
@@ -56,7 +55,7 @@ row-past (r ∷ rows) (suc i) k h = row-past rows i k (le-of-suc-le-suc h)
 
 -- what is at a number is below the count, and is one of the fine rows
 found : (n t j : ℕ) (rows : List Rule) (i k : ℕ) (r : Rule) → allFine n t j rows ≡ true → ruleOf k (nth (map asAdded rows) i) ≡ Some r → (i < length rows) × (isDeclared n t (r .lhs) (r .expansion) ≡ true) × (r .cost ≤ 65535)
-found n t j [] i k r f e = absurd (no-some r e)
+found n t j [] i k r f e = absurd (no-some e)
 found n t j (x ∷ rows) zero k r f e =
     let first = fine-first n t j x rows f in
     let same : numbered k (asAdded x) ≡ r = cc in

@@ -1,11 +1,10 @@
-use mathlib.Core.Path.{_≡_, refl, sym, ap, _∙_}
-use mathlib.Core.Bool.{true}
-use mathlib.Core.List.{map, _∷_, [], _++_}
-use Prim.Native.Nat.{ℕ, _+_, _≤_}
+use mathlib.Core.Path.{refl, ap, _∙_}
+use mathlib.Core.List.{map}
+use Prim.Native.Nat.{_≤_}
 use native.Mathlib.Omega.{arith}
-use lib.ListN.{length, take, set, length-set}
+use lib.ListN.{length, take, length-set}
 use borrow.Author.Needs.{needs}
-use Rattle.table.specs.Tables.{Added, numbered, asAdded, allFine}
+use Rattle.table.specs.Tables.{Added, numbered, asAdded}
 use Rattle.std.specs.declared.option.Option.the-variants.{Some, None}
 use Rattle.table.specs.Drafts.{contents}
 use Rattle.table.proofs.Adding.{count-is, added-more, fine-more, accepted, answer-is}

@@ -1,0 +1,4 @@
+pub mod Machines
+pub mod Making
+pub mod Held
+pub mod Laws

@@ -1,0 +1,5 @@
+pub mod Kept
+pub mod Numbers
+pub mod Crossed
+pub mod Renamed
+pub mod Wide

@@ -1,0 +1,9 @@
+pub mod Ban
+pub mod Reversal
+pub mod Intersection
+pub mod Renaming
+pub mod Held
+pub mod Matching
+pub mod Promises
+pub mod Known
+pub mod Laws

@@ -1,0 +1,46 @@
+// A node of a tree that is to be written, and the choice that is made there.
+ghost use mathlib.Core.Path.{_≡_};
+ghost use Rattle.tree.specs.Trees.{recordOf};
+ghost use Rattle.tree.specs.Steps.{nodeAt};
+use super::record::Record;
+
+// A span of entries, and the nonterminal that it is derived from.
+#[derive(Clone, Copy)]
+pub struct Node {
+    pub begin: usize,
+    pub end: usize,
+    pub nonterminal: u32,
+}
+
+// A rule that may stand at a node, and where it cuts the node's span (a leaf rule at its end).
+#[derive(Clone, Copy)]
+pub struct Choice {
+    pub number: u32,
+    pub bottom: u32,
+    pub left: u32,
+    pub right: u32,
+    pub cut: usize,
+}
+
+impl Node {
+    // What is written of the node.
+    pub(crate) fn record(self, choice: Choice) -> Record
+        ensures { λ r. ⌜ r ≡ recordOf (self .begin) (self .end) (choice .bottom) ⌝ }
+    {
+        Record { begin: self.begin, end: self.end, bottom: choice.bottom }
+    }
+
+    // The node of the part before the cut.
+    pub(crate) fn left_part(self, choice: Choice) -> Node
+        ensures { λ r. ⌜ r ≡ nodeAt (self .begin) (choice .cut) (choice .left) ⌝ }
+    {
+        Node { begin: self.begin, end: choice.cut, nonterminal: choice.left }
+    }
+
+    // The node of the part from the cut on.
+    pub(crate) fn right_part(self, choice: Choice) -> Node
+        ensures { λ r. ⌜ r ≡ nodeAt (choice .cut) (self .end) (choice .right) ⌝ }
+    {
+        Node { begin: choice.cut, end: self.end, nonterminal: choice.right }
+    }
+}

@@ -74,7 +74,7 @@ known-sheets = record {
   three = sheet G G-shown (1 ∷ 1 ∷ 1 ∷ []) 2 8 refl refl;
   four = sheet G G-shown (2 ∷ 2 ∷ 2 ∷ 2 ∷ []) 5 15 refl refl;
   two = sheet G G-shown (3 ∷ 3 ∷ []) 4 5 refl refl;
-  counted = sheet _ (intersection-shown (counting 2 1 1) (counting-works 2 1 1 (omega arith) (omega arith) (omega arith) (omega arith)) G G-shown) (3 ∷ 3 ∷ []) 3 6 refl refl;
-  banned = sheet _ (ban-shown (0 ∷ []) G G-shown) (3 ∷ 3 ∷ []) 0 none refl refl;
+  two-counted = sheet _ (intersection-shown (counting 2 1 1) (counting-works 2 1 1 (omega arith) (omega arith) (omega arith) (omega arith)) G G-shown) (3 ∷ 3 ∷ []) 3 6 refl refl;
+  two-banned = sheet _ (ban-shown (0 ∷ []) G G-shown) (3 ∷ 3 ∷ []) 0 none refl refl;
   renamed = sheet _ (renaming-shown knownReadings recording G G-shown) (3 ∷ []) 2 2 refl refl;
 }

@@ -49,9 +49,9 @@ pub record KnownSheets : Type 0 where
   -- {0, 1} {0, 1}
   pub two : Sheet G (3 ∷ 3 ∷ []) 4 5
   -- the same, with the automaton that counts the code 1 up to 1
-  pub counted : Sheet (intersection (counting 2 1 1) G) (3 ∷ 3 ∷ []) 3 6
+  pub two-counted : Sheet (intersection (counting 2 1 1) G) (3 ∷ 3 ∷ []) 3 6
   -- {0, 1} {0, 1}, with rule 0 banned
-  pub banned : Sheet (ban (0 ∷ []) G) (3 ∷ 3 ∷ []) 0 none
+  pub two-banned : Sheet (ban (0 ∷ []) G) (3 ∷ 3 ∷ []) 0 none
   -- {0, 1}, where both are read as 0
   pub renamed : Sheet (renaming knownReadings G) (3 ∷ []) 2 2
 

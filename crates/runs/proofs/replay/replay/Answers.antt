@@ -6,6 +6,7 @@ use lib.ListN.{length, getD}
 use Rattle.std.specs.Options.{isSome}
 use Rattle.std.specs.declared.result.Result.the-variants.{Ok}
 use Rattle.chart.specs.Model.{State, state, empty, terms, ChartStands}
+use Rattle.layers.proofs.Stacked.{one-for-one-all, same-weight-all}
 use Rattle.runs.specs.Runs.{run, answers}
 use Rattle.runs.proofs.replay.replay.Needs as need
 
@@ -34,6 +35,9 @@ returns g c =
       stands = stands;
       answer = c .total-total .ensures .is;
       total = c .total-total .ensures .total w stands;
+      matches = one-for-one-all;
+      weighs = same-weight-all (g .S·Semiring·met .laws);
+      tree = c .replay-tree-tree .ensures;
       own = ran .own ∙ did .own;
       long = ran .long ∙ ap length (c .clear .ensures .same);
       named = ran .named ∙ c .clear .ensures .named;

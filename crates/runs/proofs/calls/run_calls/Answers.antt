@@ -7,8 +7,8 @@ use Rattle.chart.specs.declared.call.Call.the-variants.{Clear}
 use Rattle.chart.specs.Model.{state, terms, step, answer, Did}
 use Rattle.runs.specs.Runs.{run, answers}
 use Rattle.runs.proofs.Lists.{run-more, run-all, answers-at, written, no-room, kept}
-use Rattle.runs.proofs.replay.run_calls.Needs as need
-use Rattle.runs.proofs.replay.run_calls.Needs.{then-i-answers, else-i-answers}
+use Rattle.runs.proofs.calls.run_calls.Needs as need
+use Rattle.runs.proofs.calls.run_calls.Needs.{then-i-answers, else-i-answers}
 
 pub loop-i-again : need.loop-i-again
 loop-i-again g c =

@@ -6,7 +6,7 @@ use Rattle.std.specs.Options.{isSome}
 use Rattle.std.specs.declared.result.Result.the-variants.{Ok}
 use Rattle.chart.specs.Model.{state, terms, ChartStands}
 use Rattle.runs.specs.Runs.{run, answers}
-use Rattle.runs.proofs.replay.run_calls.Given as given
+use Rattle.runs.proofs.calls.run_calls.Given as given
 
 abbrev pub Inv-loop-i : given.InvT-loop-i
 Inv-loop-i g l =

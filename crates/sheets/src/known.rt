@@ -20,11 +20,11 @@ use table::table::TableGrammar;
 
 // So many entries with these bits, their count and their cost.
 #[derive(Clone, Copy)]
-struct Sheet {
-    bits: u32,
-    times: usize,
-    count: u64,
-    cost: u32,
+pub struct Sheet {
+    pub bits: u32,
+    pub times: usize,
+    pub count: u64,
+    pub cost: u32,
 }
 
 const SHEETS: [Sheet; 7] = [
@@ -46,15 +46,20 @@ fn total<S: Semiring, G: Grammar, W: Weighing<Value = S>>(slots: &mut [S], gramm
     chart.total(grammar)
 }
 
+// The grammar gives the sheet its count and its cost.
+pub fn check_sheet<G: Grammar>(grammar: &G, sheet: Sheet) -> Result<(), Fail> {
+    let mut count_slots = [Count::zero(); 741];
+    let mut cost_slots = [Cost::zero(); 741];
+    check_eq(total(&mut count_slots, grammar, &UnitWeighing::new(), sheet)?.value, sheet.count)?;
+    check_eq(total(&mut cost_slots, grammar, &CostWeighing {}, sheet)?.value, sheet.cost)
+}
+
 #[test]
 fn counts_and_costs() -> Result<(), Fail> {
     let mut rows = [BLANK; 3];
     let grammar = known_rules(&mut rows);
     for sheet in SHEETS {
-        let mut count_slots = [Count::zero(); 741];
-        let mut cost_slots = [Cost::zero(); 741];
-        check_eq(total(&mut count_slots, &grammar, &UnitWeighing::new(), sheet)?.value, sheet.count)?;
-        check_eq(total(&mut cost_slots, &grammar, &CostWeighing {}, sheet)?.value, sheet.cost)?;
+        check_sheet(&grammar, sheet)?;
     }
     Ok(())
 }

@@ -1,5 +1,9 @@
-// Tests over whole sheets: known entries with known answers, run through table grammar and chart.
+// Tests over whole sheets: known entries with known answers, run through grammars, layers, chart, tree and lists of calls.
 #[cfg(test)]
 mod rules;
 #[cfg(test)]
 mod known;
+#[cfg(test)]
+mod layered;
+#[cfg(test)]
+mod replayed;

@@ -8,5 +8,3 @@ pub mod promises;
 pub mod readings;
 pub mod renaming;
 pub mod reversal;
-#[cfg(test)]
-mod tests;

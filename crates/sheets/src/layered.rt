@@ -42,7 +42,7 @@ fn one_layer() -> Result<(), Fail> {
     check_sheet(&renamed, Sheet { bits: 0b011, times: 1, count: 2, cost: 2 })
 }
 
-// Recorder codes over exactly one or more codes 1, reversed, without a ban: {0,1,2}{0,1,2} has 3 + 5 readings but the two of 0 0.
+// Of the nine words of recorder codes, the five with a code that is read as 1 have one derivation each.
 #[test]
 fn all_layers() -> Result<(), Fail> {
     let mut rows = [BLANK; 3];

@@ -7,3 +7,5 @@ mod known;
 mod layered;
 #[cfg(test)]
 mod replayed;
+#[cfg(test)]
+mod sizes;

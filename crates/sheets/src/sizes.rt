@@ -1,14 +1,14 @@
 // Each refusal, the sizes at which it begins, and a stack of all four layers.
-use super::ban::Ban;
-use super::ban::BanGrammar;
-use super::bans::Bans;
-use super::intersection::Intersection;
-use super::intersection::IntersectionGrammar;
-use super::readings::Readings;
-use super::renaming::Renaming;
-use super::renaming::RenamingGrammar;
-use super::reversal::Reversal;
-use super::reversal::ReversalGrammar;
+use layers::ban::Ban;
+use layers::ban::BanGrammar;
+use layers::bans::Bans;
+use layers::intersection::Intersection;
+use layers::intersection::IntersectionGrammar;
+use layers::readings::Readings;
+use layers::renaming::Renaming;
+use layers::renaming::RenamingGrammar;
+use layers::reversal::Reversal;
+use layers::reversal::ReversalGrammar;
 use automata::counting::CountingAutomaton;
 use automata::counting::CountingIsAutomaton;
 use automata::table::TableAutomaton;

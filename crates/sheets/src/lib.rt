@@ -2,10 +2,14 @@
 #[cfg(test)]
 mod rules;
 #[cfg(test)]
+mod starts;
+#[cfg(test)]
 mod known;
 #[cfg(test)]
 mod layered;
 #[cfg(test)]
-mod replayed;
-#[cfg(test)]
 mod sizes;
+#[cfg(test)]
+mod trees;
+#[cfg(test)]
+mod replayed;

@@ -67,7 +67,7 @@ module _ (m : Meaning) (count : ℕ) (xs : List Cost) (v : Cost) (is : v ≡ who
       go (d .0) (d .1) (m .start (d .0)) refl (d .2 ∙ sym e)
     where
       go : (A : ℕ) → A < m .nonterminals → (b : Bool) → m .start A ≡ b → cond b (cellAt cost (m .nonterminals) xs 0 count A) (cost .zero) .value ≡ v .value
-        → (A : ℕ) × StartAttains m (m .nonterminals) (cellAt cost (m .nonterminals) xs 0 count) (v .value) A
+          → (A : ℕ) × StartAttains m (m .nonterminals) (cellAt cost (m .nonterminals) xs 0 count) (v .value) A
       go A h true start e = (A, record { below = h; start = start; costs = e })
       go A h false start e = absurd (omega arith)
 
@@ -114,7 +114,7 @@ pub record Passed (m : Meaning) (e : Entries) (xs : List Cost) (v : Cost) (count
   pub fits : 2 * e .count - 1 ≤ room
 
 pub passed : (m : Meaning) (e : Entries) (xs : List Cost) (v : Cost) (count room nodes : ℕ) → totalAnswer cost m (e .nonterminals) (e .count) xs ≡ Ok v → count ≡ length (state e .entries) → nodesAnswer v count room ≡ Ok nodes
-  → Passed m e xs v count room nodes
+    → Passed m e xs v count room nodes
 passed m e xs v count room nodes total long answer =
     let t = ok-total cost m (e .nonterminals) (e .count) xs v total in
     let a = accepted-some v count room nodes answer in
@@ -125,7 +125,7 @@ passed m e xs v count room nodes total long answer =
 
 -- the answer is that to the tests
 pub chart-answer : (m : Meaning) (e : Entries) (xs : List Cost) (v : Cost) (count room : ℕ) (r : Result ℕ Refusal) → totalAnswer cost m (e .nonterminals) (e .count) xs ≡ Ok v → count ≡ length (state e .entries) → nodesAnswer v count room ≡ r
-  → r ≡ chartAnswer m e xs room
+    → r ≡ chartAnswer m e xs room
 chart-answer m e xs v count room r total long answer = sym answer ∙ ap (λ n. nodesAnswer v n room) (long ∙ size e) ∙ sym (ap (λ t. treeAnswer t (e .count) room) total)
 
 module _ (weigh : Rule → Cost) (m : Meaning) (es : List ℕ) (total : Cost) (is : TotalOf cost (EntriesFromStarts m es) (weightOf cost weigh m) total) where
@@ -137,7 +137,7 @@ module _ (weigh : Rule → Cost) (m : Meaning) (es : List ℕ) (total : Cost) (i
       go (inr d) = absurd (never (d .0) (d .1))
 
 without-none : (weight : ℕ → ℕ → Cost) (m : Meaning) → Shown m → (es : List ℕ) (total : Cost) → TotalOf cost (EntriesFromStarts m es) (weightOf cost (by weight) m) total
-  → WeighsCost weight → length es ≤ 64 → total .value ≡ none → (t : Tree) → EntriesFromStarts m es t → ⊥
+    → WeighsCost weight → length es ≤ 64 → total .value ≡ none → (t : Tree) → EntriesFromStarts m es t → ⊥
 without-none weight m shown es total is byc short free t d =
     let same : (λ (c b : ℕ). costing c) ≡ weight = λ i c b. sym (byc c b) i in
     let below = total-least (by weight) m (EntriesFromStarts m es) total is .below t d in
@@ -153,10 +153,11 @@ tells-none weight m shown e xs room r is same byc stands =
     let es = state e .entries in
     let total = wholeTotal cost m (e .count) xs in
     let whole : TotalOf cost (EntriesFromStarts m es) (weightOf cost (by weight) m) total =
-        subst (λ n. TotalOf cost (EntriesFromStarts m es) (weightOf cost (by weight) m) (wholeTotal cost m n xs)) (size e) (total-stands cost-laws (by weight) m shown es xs stands) in
-    let said = is ∙ same-answer m e xs room same in
-    (λ f. without-none weight m shown es total whole byc (omega (arith, size e, e .few)) (answer-none total (e .count) room (sym said ∙ f)),
-     λ never. said ∙ none-answer total (e .count) room (none-without (by weight) m es total whole never))
+    subst (λ n. TotalOf cost (EntriesFromStarts m es) (weightOf cost (by weight) m) (wholeTotal cost m n xs)) (size e) (total-stands cost-laws (by weight) m shown es xs stands) in
+    let said = is ∙ same-answer m e xs room same in (
+      λ f. without-none weight m shown es total whole byc (omega (arith, size e, e .few)) (answer-none total (e .count) room (sym said ∙ f)),
+      λ never. said ∙ none-answer total (e .count) room (none-without (by weight) m es total whole never),
+    )
 
 -- the records of the tree that was taken over all entries
 module _ (weight : ℕ → ℕ → Cost) (m : Meaning) (shown : Shown m) (e : Entries) (xs : List Cost) (same : m .nonterminals ≡ e .nonterminals) (stands : ChartStands cost weight m e xs) where
@@ -167,24 +168,24 @@ module _ (weight : ℕ → ℕ → Cost) (m : Meaning) (shown : Shown m) (e : En
   cellOf n = cellAt cost n xs
 
   pub whole-tree : (v : Cost) → v ≡ wholeTotal cost m (e .count) xs → v .value < none → (count A : ℕ) → count ≡ length es
-    → FirstOf (StartAttains m (m .nonterminals) (cellOf (e .nonterminals) 0 count) (v .value)) (Some A)
-    → (part written : List Record) → written ≡ part
-    → (Filled cost (by weight) m es (cellOf (e .nonterminals)) → cellOf (e .nonterminals) 0 count A .value < none → Taken (by weight) m es (cellOf (e .nonterminals)) 0 count A part)
-    → ChartCheapest weight m e xs written
+      → FirstOf (StartAttains m (m .nonterminals) (cellOf (e .nonterminals) 0 count) (v .value)) (Some A)
+      → (part written : List Record) → written ≡ part
+      → (Filled cost (by weight) m es (cellOf (e .nonterminals)) → cellOf (e .nonterminals) 0 count A .value < none → Taken (by weight) m es (cellOf (e .nonterminals)) 0 count A part)
+      → ChartCheapest weight m e xs written
   whole-tree v is some count A long start part written wrote taken =
       let total = wholeTotal cost m (e .count) xs in
       let full : 0 < length es = omega (arith, size e, total-some m (e .count) xs v is some) in
       let whole : TotalOf cost (EntriesFromStarts m es) (weightOf cost (by weight) m) total =
-          subst (λ n. TotalOf cost (EntriesFromStarts m es) (weightOf cost (by weight) m) (wholeTotal cost m n xs)) (size e) (total-stands cost-laws (by weight) m shown es xs stands) in
+      subst (λ n. TotalOf cost (EntriesFromStarts m es) (weightOf cost (by weight) m) (wholeTotal cost m n xs)) (size e) (total-stands cost-laws (by weight) m shown es xs stands) in
       let sums : total ≡ startSum cost m (cellOf (m .nonterminals) 0 (length es)) = ap (λ n. wholeTotal cost m n xs) (sym (size e)) ∙ some-whole cost m (length es) xs (omega arith) in
       let begins : FirstOf (StartAttains m (m .nonterminals) (cellOf (m .nonterminals) 0 (length es)) (total .value)) (Some A) =
-          subst (λ (x : Cost). FirstOf (StartAttains m (m .nonterminals) (cellOf (m .nonterminals) 0 (length es)) (x .value)) (Some A)) is
-            (subst (λ n. FirstOf (StartAttains m (m .nonterminals) (cellOf n 0 (length es)) (v .value)) (Some A)) (sym same)
-              (subst (λ k. FirstOf (StartAttains m (m .nonterminals) (cellOf (e .nonterminals) 0 k) (v .value)) (Some A)) long start)) in
+      subst (λ (x : Cost). FirstOf (StartAttains m (m .nonterminals) (cellOf (m .nonterminals) 0 (length es)) (x .value)) (Some A)) is
+      (subst (λ n. FirstOf (StartAttains m (m .nonterminals) (cellOf n 0 (length es)) (v .value)) (Some A)) (sym same)
+      (subst (λ k. FirstOf (StartAttains m (m .nonterminals) (cellOf (e .nonterminals) 0 k) (v .value)) (Some A)) long start)) in
       let filled : Filled cost (by weight) m es (cellOf (m .nonterminals)) = stands-filled cost-laws (by weight) m shown es (cellOf (m .nonterminals)) stands in
       let below : cellOf (e .nonterminals) 0 count A .value < none = (let h = start .0 .costs in omega arith) in
       let tree : Taken (by weight) m es (cellOf (m .nonterminals)) 0 (length es) A part =
-          subst (λ n. Taken (by weight) m es (cellOf n) 0 (length es) A part) (sym same)
-            (subst (λ k. Taken (by weight) m es (cellOf (e .nonterminals)) 0 k A part) long
-              (taken (subst (λ n. Filled cost (by weight) m es (cellOf n)) same filled) below)) in
+      subst (λ n. Taken (by weight) m es (cellOf n) 0 (length es) A part) (sym same)
+      (subst (λ k. Taken (by weight) m es (cellOf (e .nonterminals)) 0 k A part) long
+      (taken (subst (λ n. Filled cost (by weight) m es (cellOf n)) same filled) below)) in
       subst (ChartCheapest weight m e xs) (sym wrote) (cheapest (by weight) m shown es (cellOf (m .nonterminals)) total whole sums full A (begins .0) (begins .1) part tree)

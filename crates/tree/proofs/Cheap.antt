@@ -37,14 +37,15 @@ module _ (weigh : Rule → Cost) (m : Meaning) (es : List ℕ) (cell : ℕ → �
 
   leaf-costs : (b e A i : ℕ) → e ≤ length es → (r : Rule) → m .rule i ≡ Some r → r .lhs ≡ A → (x : Expansion) → r .expansion ≡ x → Attains es cell (weigh r) (cell b e A .value) b e x e → Costs b e A (leaf i)
   leaf-costs b e A i fits r there from (Leaf c) is p =
-      let one : span es b e ≡ getD es b 0 ∷ [] = ap (span es b) (sym (p .one)) ∙ span-one es b (let h = p .one in omega arith) in
-      (leaf-made m i A r there c is from (span es b e) (subst (Fits (c ∷ [])) (sym one) (p .fits, tt)),
-       weighs i r there ∙ same (weigh r) (cell b e A) (p .costs))
+      let one : span es b e ≡ getD es b 0 ∷ [] = ap (span es b) (sym (p .one)) ∙ span-one es b (let h = p .one in omega arith) in (
+        leaf-made m i A r there c is from (span es b e) (subst (Fits (c ∷ [])) (sym one) (p .fits, tt)),
+        weighs i r there ∙ same (weigh r) (cell b e A) (p .costs),
+      )
   leaf-costs b e A i fits r there from (Pair B C) is p = absurd (let h = p .before in omega arith)
 
   -- the rival at a node is a pair rule's
   at-cut : (b e A i : ℕ) {Left Right : ℕ → ℕ → ℕ → Type 0} (p : AtNode m (Rival weigh m es cell) b e A i Left Right)
-    → PairAttains cell (weigh (pairRule A (p .left) (p .right) (p .cost) (p .bottom))) (cell b e A .value) b e (p .left) (p .right) (p .cut)
+      → PairAttains cell (weigh (pairRule A (p .left) (p .right) (p .cost) (p .bottom))) (cell b e A .value) b e (p .left) (p .right) (p .cut)
   at-cut b e A i p =
       let rule : Rule = pairRule A (p .left) (p .right) (p .cost) (p .bottom) in
       let alike : p .here .rule ≡ rule = (let t = p .here .there in let u = p .rule in cc) in
@@ -58,9 +59,10 @@ module _ (weigh : Rule → Cost) (m : Meaning) (es : List ℕ) (cell : ℕ → �
       let at : b + (k - b) ≡ k = (let h = q .after in omega arith) in
       let short : k - b ≤ e - b = (let h = q .before in omega arith) in
       let front : span es b k ≡ take (k - b) (span es b e) = ap (span es b) (sym at) ∙ sym (span-front es b e (k - b) short) in
-      let back : span es k e ≡ drop (k - b) (span es b e) = ap (λ j. span es j e) (sym at) ∙ sym (span-back es b e (k - b) short) in
-      (node-made m i A rule (p .rule) (p .left) (p .right) refl refl (span es b e) (k - b) l r (subst (λ s. DerivesEntries m (p .left) s l) front (left .0)) (subst (λ s. DerivesEntries m (p .right) s r) back (right .0)),
-       ap₂ (cost .times) (weighs i rule (p .rule)) (ap₂ (cost .times) (left .1) (right .1)) ∙ same _ (cell b e A) (q .costs))
+      let back : span es k e ≡ drop (k - b) (span es b e) = ap (λ j. span es j e) (sym at) ∙ sym (span-back es b e (k - b) short) in (
+        node-made m i A rule (p .rule) (p .left) (p .right) refl refl (span es b e) (k - b) l r (subst (λ s. DerivesEntries m (p .left) s l) front (left .0)) (subst (λ s. DerivesEntries m (p .right) s r) back (right .0)),
+        ap₂ (cost .times) (weighs i rule (p .rule)) (ap₂ (cost .times) (left .1) (right .1)) ∙ same _ (cell b e A) (q .costs),
+      )
 
   -- only that each node is a rival counts here, and not which
   pub rivals-cost : (b e A : ℕ) (t : Tree) → b < e → e ≤ length es → ByRivals weigh m es cell b e A t → Costs b e A t
@@ -81,7 +83,7 @@ start-below m shown cell B start =
 module _ (weigh : Rule → Cost) (m : Meaning) (shown : Shown m) (es : List ℕ) (cell : ℕ → ℕ → ℕ → Cost) (total : Cost)
     (is : TotalOf cost (EntriesFromStarts m es) (weightOf cost weigh m) total) (sums : total ≡ startSum cost m (cell 0 (length es))) where
   pub cheapest : 0 < length es → (A : ℕ) → StartAttains m (m .nonterminals) (cell 0 (length es)) (total .value) A → ((B : ℕ) → StartAttains m (m .nonterminals) (cell 0 (length es)) (total .value) B → A ≤ B)
-    → (part : List Record) → Taken weigh m es cell 0 (length es) A part → Cheapest weigh m es cell total part
+      → (part : List Record) → Taken weigh m es cell 0 (length es) A part → Cheapest weigh m es cell total part
   cheapest some A start first part taken =
       let t = taken .tree in
       let d = rivals-cost weigh m es cell 0 (length es) A t some (omega arith) (taken .rivals) in
@@ -90,7 +92,7 @@ module _ (weigh : Rule → Cost) (m : Meaning) (shown : Shown m) (es : List ℕ)
       let value = ap (λ (x : Cost). x .value) sums in
       let at = start .costs in
       let least-start : (B : ℕ) → m .start B ≡ true → cell 0 (length es) A .value ≤ cell 0 (length es) B .value =
-          λ B h. omega (arith, start-below m shown (cell 0 (length es)) B h) in
+      λ B h. omega (arith, start-below m shown (cell 0 (length es)) B h) in
       record {
         tree = t;
         are = taken .are;

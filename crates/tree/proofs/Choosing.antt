@@ -23,19 +23,17 @@ use Rattle.grammar.specs.Spans.{cutTerm, share, ruleShare, shares}
 use Rattle.grammar.proofs.Truths.{true-of}
 use Rattle.tree.specs.declared.node.Choice.{Choice}
 use Rattle.tree.specs.Rivals.{LeafAttains, PairAttains, Attains, Rival, First}
-use Rattle.tree.specs.Steps.{Parts, Of, PickedOne, Picked}
+use Rattle.tree.specs.Steps.{Parts, PickedAt, PickedOf}
 
 -- the smallest cut of the lowest rule number
-pub picked-first : (R : ℕ → ℕ → Type 0) (m : Meaning) (i : ℕ) (c : Choice) → ((j : ℕ) → j < i → (k : ℕ) → R j k → ⊥) → PickedOne R m i c → Picked R m c
-picked-first R m i c none-before p =
+pub picked-first : (R : ℕ → ℕ → Type 0) (m : Meaning) (i : ℕ) → ((j : ℕ) → j < i → (h : ℕ) → R j h → ⊥) → (k : ℕ) → R i k → (r : Option Choice) → PickedAt R m i r → PickedOf R m r
+picked-first R m i early k there None p = absurd (p k there)
+picked-first R m i early k there (Some c) p =
     let at = p .number in
     record {
       of = p .of;
       rival = subst (λ n. R n (c .cut)) (sym at) (p .rival);
-      first = record {
-        lowest = λ j h r. elim (cases-lt j (c .number)) [ inl early ↦ absurd (none-before j (omega arith) h r) | inr late ↦ late ];
-        smallest = λ h r. p .smallest h (subst (λ n. R n h) at r);
-      };
+      first = record { lowest = λ j h r. elim (cases-lt j (c .number)) [ inl before ↦ absurd (early j (omega arith) h r) | inr late ↦ late ]; smallest = λ h r. p .smallest h (subst (λ n. R n h) at r) };
     }
 
 -- a sum in the cost semiring is one of its terms, or none
@@ -45,7 +43,7 @@ sum-attained zero f h = absurd (omega arith)
 sum-attained (suc n) f h = go (sum-attained n f) (decLe (sumBelow cost n f .value) (f n .value))
   where
     go : (sumBelow cost n f .value < none → (i : ℕ) × (i < n) × (f i .value ≡ sumBelow cost n f .value)) → Dec (sumBelow cost n f .value ≤ f n .value)
-      → (i : ℕ) × (i < suc n) × (f i .value ≡ min (sumBelow cost n f .value) (f n .value))
+        → (i : ℕ) × (i < suc n) × (f i .value ≡ min (sumBelow cost n f .value) (f n .value))
     go deep (yes l) = let d = deep (omega arith) in (d .0, (let k = d .1 in omega arith), (let k = d .2 in omega arith))
     go deep (no l) = (n, omega arith, omega arith)
 
@@ -54,8 +52,9 @@ pub sum-below : (n : ℕ) (f : ℕ → Cost) (i : ℕ) → i < n → sumBelow co
 unfolding sumBelow
 sum-below zero f i h = absurd (omega arith)
 sum-below (suc n) f i h = elim (cases-lt i n) [
-    inl early ↦ omega (arith, sum-below n f i early)
-  | inr late ↦ let same : n ≡ i = omega arith in let e = ap (λ k. f k .value) same in omega arith ]
+  | inl early ↦ omega (arith, sum-below n f i early)
+  | inr late ↦ let same : n ≡ i = omega arith in let e = ap (λ k. f k .value) same in omega arith
+]
 
 both-of : (b c : Bool) → (b && c) ≡ true → (b ≡ true) × (c ≡ true)
 both-of true c e = (refl, e)
@@ -88,7 +87,7 @@ module _ (weigh : Rule → Cost) (m : Meaning) (es : List ℕ) (cell : ℕ → �
       rule-rival (d .0) (m .rule (d .0)) refl (d .2 ∙ sym e)
     where
       from-rule : (i : ℕ) (r : Rule) → m .rule i ≡ Some r → (b : Bool) → eqb (r .lhs) A ≡ b
-        → cond b (share cost cell (weigh r) last begin end (r .expansion)) (cost .zero) .value ≡ cell begin end A .value → (i k : ℕ) × Rival weigh m es cell begin end A i k
+          → cond b (share cost cell (weigh r) last begin end (r .expansion)) (cost .zero) .value ≡ cell begin end A .value → (i k : ℕ) × Rival weigh m es cell begin end A i k
       from-rule i r is true same e =
           let d = expansion-rival (cell begin end A .value) (weigh r) (r .expansion) h e in
           (i, d .0, record { rule = r; there = is; from = eqb→eq (r .lhs) A (true-of _ same); attains = d .1 })

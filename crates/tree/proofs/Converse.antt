@@ -73,7 +73,7 @@ module _ (weigh : Rule → Cost) (m : Meaning) (shown : Shown m) (es : List ℕ)
     right-some : cell cut e right .value < none
 
   split : (b e A i : ℕ) (l r : Tree) → b < e → e ≤ length es → A < m .nonterminals → DerivesEntries m A (span es b e) (node i l r) → costOf weigh m (node i l r) ≡ cell b e A .value → cell b e A .value < none
-    → Split b e A i l r
+      → Split b e A i l r
   split b e A i l r some fits name d is below =
       let p = d .derives in
       let B = p .left in
@@ -102,9 +102,9 @@ module _ (weigh : Rule → Cost) (m : Meaning) (shown : Shown m) (es : List ℕ)
       let tl = attained (DerivesEntries m B (span es b k)) (cell b k B .value) some-left ll in
       let tr = attained (DerivesEntries m C (span es k e)) (cell k e C .value) some-right lr in
       let made : DerivesEntries m A (span es b e) (node i (tl .0) (tr .0)) =
-          node-made m i A rule (p .rule) B C refl refl (span es b e) (suc j) (tl .0) (tr .0)
-            (subst (λ q. DerivesEntries m B q (tl .0)) (sym (span-front es b e (suc j) within)) (tl .1))
-            (subst (λ q. DerivesEntries m C q (tr .0)) (sym (span-back es b e (suc j) within)) (tr .1)) in
+      node-made m i A rule (p .rule) B C refl refl (span es b e) (suc j) (tl .0) (tr .0)
+      (subst (λ q. DerivesEntries m B q (tl .0)) (sym (span-front es b e (suc j) within)) (tl .1))
+      (subst (λ q. DerivesEntries m C q (tr .0)) (sym (span-back es b e (suc j) within)) (tr .1)) in
       let top = least b e A some fits name .below (node i (tl .0) (tr .0)) made in
       let el = tl .2 in
       let er = tr .2 in
@@ -154,9 +154,10 @@ module _ (weigh : Rule → Cost) (m : Meaning) (shown : Shown m) (es : List ℕ)
       let whole : DerivesEntries m A (span es 0 n) t = subst (λ s. DerivesEntries m A s t) (sym (span-all es)) (d .derives) in
       let here = least 0 n A long (omega arith) name in
       let low = here .below t whole in
-      let same : costOf weigh m t ≡ cell 0 n A .value = omega (arith, no-cheaper A (d .start) long) in
-      (record { start = d .start; least = λ B start. (let h = no-cheaper B start long in omega arith) },
-       least-rivals 0 n A t long (omega arith) name whole same (omega arith))
+      let same : costOf weigh m t ≡ cell 0 n A .value = omega (arith, no-cheaper A (d .start) long) in (
+        record { start = d .start; least = λ B start. (let h = no-cheaper B start long in omega arith) },
+        least-rivals 0 n A t long (omega arith) name whole same (omega arith),
+      )
     where
       no-cheaper : (B : ℕ) → m .start B ≡ true → 0 < length es → costOf weigh m t ≤ cell 0 (length es) B .value
       no-cheaper B start long = go (least 0 (length es) B long (omega arith) (shown .starts B start) .attained)

@@ -77,7 +77,7 @@ module _ (weigh : Rule → Cost) (m : Meaning) (es : List ℕ) (cell : ℕ → �
             tree = node (c .number) (left .tree) (right .tree);
             covers = sym whole;
             are = ap₂ (λ x b. recordOf begin x b ∷ (l .part ++ r .part)) whole (bottom-is (p .of))
-              ∙ ap₂ (λ x y. recordOf begin (begin + (leaves (left .tree) + leaves (right .tree))) (bottomOf (m .rule (c .number))) ∷ (x ++ y)) (left .are) (right .are ∙ ap (records m (right .tree)) (sym (left .covers)));
+                ∙ ap₂ (λ x y. recordOf begin (begin + (leaves (left .tree) + leaves (right .tree))) (bottomOf (m .rule (c .number))) ∷ (x ++ y)) (left .are) (right .are ∙ ap (records m (right .tree)) (sym (left .covers)));
             rivals = record { left = c .left; right = c .right; cost = q .cost; bottom = q .bottom; cut = c .cut; rule = rule; here = p .rival; on-left = left .rivals; on-right = right .rivals };
             lowest = record { left = c .left; right = c .right; cost = q .cost; bottom = q .bottom; cut = c .cut; rule = rule; here = p .first; on-left = left .lowest; on-right = right .lowest };
           }

@@ -27,11 +27,11 @@ put-put old at p q next h e =
     let whole : put old at p ≡ front ++ rest = sym (append-assoc (take at old) p rest) in
     let a : take next (put old at p) ≡ front = ap (take next) whole ∙ take-at front rest next (long ∙ sym e) in
     let b : drop (next + length q) (put old at p) ≡ drop (at + length (p ++ q)) old =
-        ap (drop (next + length q)) whole
-        ∙ ap (λ n. drop (n + length q) (front ++ rest)) (e ∙ sym long)
-        ∙ drop-append-add front rest (length q)
-        ∙ drop-drop (length q) (at + length p) old
-        ∙ ap (λ n. drop n old) (add-assoc at (length p) (length q) ∙ ap (λ n. at + n) (sym (length-append p q))) in
+    ap (drop (next + length q)) whole
+    ∙ ap (λ n. drop (n + length q) (front ++ rest)) (e ∙ sym long)
+    ∙ drop-append-add front rest (length q)
+    ∙ drop-drop (length q) (at + length p) old
+    ∙ ap (λ n. drop n old) (add-assoc at (length p) (length q) ∙ ap (λ n. at + n) (sym (length-append p q))) in
     (λ i. a i ++ (q ++ b i)) ∙ append-assoc (take at old) p _ ∙ ap (λ l. take at old ++ l) (sym (append-assoc p q _))
 
 -- a part from the start: it stands in front, and what is beyond it stays

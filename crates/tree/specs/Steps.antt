@@ -17,7 +17,7 @@ use Rattle.grammar.specs.Spans.{Filled}
 use Rattle.tree.specs.declared.node.Node.{Node}
 use Rattle.tree.specs.declared.node.Choice.{Choice}
 use Rattle.tree.specs.declared.record.Record.{Record}
-use Rattle.tree.specs.Rivals.{First, ByRivals, ByFirst}
+use Rattle.tree.specs.Rivals.{Rival, First, ByRivals, ByFirst}
 use Rattle.tree.specs.Trees.{records}
 
 -- a node over the span (begin, end) from A
@@ -34,6 +34,11 @@ abbrev pub FirstOf : (ℕ → Type 0) → Option ℕ → Type 0
 FirstOf P None = (k : ℕ) → P k → ⊥
 FirstOf P (Some k) = P k × ((j : ℕ) → P j → k ≤ j)
 
+-- the first number below n with P, or none where there is none
+abbrev pub FirstBelow : ℕ → (ℕ → Type 0) → Option ℕ → Type 0
+FirstBelow n P None = (k : ℕ) → k < n → P k → ⊥
+FirstBelow n P (Some k) = P k × ((j : ℕ) → j < k → P j → ⊥)
+
 -- A is a start below n whose cost is v
 pub record StartAttains (m : Meaning) (n : ℕ) (cell : ℕ → Cost) (v A : ℕ) : Type 0 where
   pub below : A < n
@@ -44,6 +49,10 @@ pub record StartAttains (m : Meaning) (n : ℕ) (cell : ℕ → Cost) (v A : ℕ
 abbrev pub Parts : Expansion → ℕ → ℕ → Type 0
 Parts (Pair B C) left right = (left ≡ B) × (right ≡ C)
 Parts (Leaf c) left right = (left ≡ 0) × (right ≡ 0)
+
+-- the rule at number i has a rival, at some cut
+unfoldable pub HasRival : (Rule → Cost) → Meaning → List ℕ → (ℕ → ℕ → ℕ → Cost) → ℕ → ℕ → ℕ → ℕ → Type 0
+HasRival weigh m es cell begin end A i = (k : ℕ) × Rival weigh m es cell begin end A i k
 
 -- a choice is the rule at its number
 pub record Of (m : Meaning) (c : Choice) : Type 0 where

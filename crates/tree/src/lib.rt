@@ -18,17 +18,22 @@ use starts::first_start;
 use starts::node_count;
 use writes::write_tree;
 
-pub mod record;
-mod node;
 mod costing;
+mod node;
 mod reads;
+pub mod record;
 mod rivals;
-mod writes;
 mod starts;
+mod writes;
 
 // Writes the records of a cheapest derivation of the chart's entries, in preorder, left first, and answers how many.
 // The start is the lowest-numbered of least cost; each node takes the lowest rule number that attains its cell's cost, then the smallest cut.
-pub fn tree<G: Grammar, W: Weighing<Value = Cost>>(chart: &Chart<'_, Cost>, grammar: &G, weighing: &W, records: &mut [Record]) -> Result<usize, Refusal>
+pub fn tree<G: Grammar, W: Weighing<Value = Cost>>(
+    chart: &Chart<'_, Cost>,
+    grammar: &G,
+    weighing: &W,
+    records: &mut [Record],
+) -> Result<usize, Refusal>
     ensures answer { λ r. ⌜ r ≡ chartAnswer (meaning (now (grammar .entry))) (now (chart .entry) .entries) (now (now (chart .entry) .slots .cells)) (length (now (records .entry))) ⌝ }
     ensures beyond { λ r. ⌜ Cases r (λ k. drop k (now (records .exit)) ≡ drop k (now (records .entry))) (λ _. now (records .exit) ≡ now (records .entry)) ⌝ }
     ensures cheapest { λ r. ⌜ (ChartStands cost (weight (now (weighing .entry))) (meaning (now (grammar .entry))) (now (chart .entry) .entries) (now (now (chart .entry) .slots .cells)) → Cases r (λ k. ChartCheapest (weight (now (weighing .entry))) (meaning (now (grammar .entry))) (now (chart .entry) .entries) (now (now (chart .entry) .slots .cells)) (take k (now (records .exit)))) (λ _. Unit {0})) ⌝ }
@@ -40,7 +45,12 @@ pub fn tree<G: Grammar, W: Weighing<Value = Cost>>(chart: &Chart<'_, Cost>, gram
     let nodes = node_count(total, count, records.len())?;
     match first_start(chart, grammar, count, total.value) {
         Some(start) => {
-            write_tree(chart, grammar, weighing, Node { begin: 0, end: count, nonterminal: start }, records, 0);
+            let root = Node {
+                begin: 0,
+                end: count,
+                nonterminal: start,
+            };
+            write_tree(chart, grammar, weighing, root, records, 0);
             Ok(nodes)
         }
         None => unreachable(),

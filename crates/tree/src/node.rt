@@ -1,5 +1,7 @@
 // A node of a tree that is to be written, and the choice that is made there.
 ghost use mathlib.Core.Path.{_≡_};
+ghost use Prim.Native.Nat.{_<_};
+ghost use lib.ListN.{length, set};
 ghost use Rattle.tree.specs.Trees.{recordOf};
 ghost use Rattle.tree.specs.Steps.{nodeAt};
 use super::record::Record;
@@ -23,24 +25,37 @@ pub struct Choice {
 }
 
 impl Node {
-    // What is written of the node.
-    pub(crate) fn record(self, choice: Choice) -> Record
-        ensures { λ r. ⌜ r ≡ recordOf (self .begin) (self .end) (choice .bottom) ⌝ }
+    // Writes the node's record at a place.
+    pub(crate) fn write(self, choice: Choice, records: &mut [Record], at: usize)
+        requires { ⌜ at < length (now records) ⌝ }
+        ensures { λ _. ⌜ now (records .exit) ≡ set (now (records .entry)) at (recordOf (self .begin) (self .end) (choice .bottom)) ⌝ }
     {
-        Record { begin: self.begin, end: self.end, bottom: choice.bottom }
+        records[at] = Record {
+            begin: self.begin,
+            end: self.end,
+            bottom: choice.bottom,
+        };
     }
 
     // The node of the part before the cut.
     pub(crate) fn left_part(self, choice: Choice) -> Node
         ensures { λ r. ⌜ r ≡ nodeAt (self .begin) (choice .cut) (choice .left) ⌝ }
     {
-        Node { begin: self.begin, end: choice.cut, nonterminal: choice.left }
+        Node {
+            end: choice.cut,
+            nonterminal: choice.left,
+            ..self
+        }
     }
 
     // The node of the part from the cut on.
     pub(crate) fn right_part(self, choice: Choice) -> Node
         ensures { λ r. ⌜ r ≡ nodeAt (choice .cut) (self .end) (choice .right) ⌝ }
     {
-        Node { begin: choice.cut, end: self.end, nonterminal: choice.right }
+        Node {
+            begin: choice.cut,
+            nonterminal: choice.right,
+            ..self
+        }
     }
 }

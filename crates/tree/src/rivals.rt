@@ -6,7 +6,7 @@ ghost use Rattle.grammar.specs.Totals.{by};
 ghost use Rattle.chart.specs.Cells.{cellAt, Names};
 ghost use Rattle.chart.specs.Model.{state};
 ghost use Rattle.tree.specs.Rivals.{LeafAttains, PairAttains, Attains, Rival};
-ghost use Rattle.tree.specs.Steps.{Says, FirstOf, Parts, PickedAt, PickedOf};
+ghost use Rattle.tree.specs.Steps.{Says, FirstOf, FirstBelow, Parts, HasRival, PickedAt, PickedOf};
 use super::costing::Costing;
 use super::node::Choice;
 use super::node::Node;
@@ -20,7 +20,16 @@ use semiring::semiring::Semiring;
 use semiring::semirings::CostSemiring;
 
 // Whether a pair rule of this weight, cut at `cut`, attains the cost of the span.
-fn pair_attains(chart: &Chart<'_, Cost>, begin: usize, end: usize, left: u32, right: u32, weight: Cost, value: u32, cut: usize) -> bool
+fn pair_attains(
+    chart: &Chart<'_, Cost>,
+    begin: usize,
+    end: usize,
+    left: u32,
+    right: u32,
+    weight: Cost,
+    value: u32,
+    cut: usize,
+) -> bool
     requires after { ⌜ begin < cut ⌝ }
     requires before { ⌜ cut < end ⌝ }
     requires within { ⌜ end ≤ now chart .entries .count ⌝ }
@@ -33,7 +42,15 @@ fn pair_attains(chart: &Chart<'_, Cost>, begin: usize, end: usize, left: u32, ri
 }
 
 // The smallest cut at which a pair rule of this weight attains the cost of the span.
-fn first_pair_cut(chart: &Chart<'_, Cost>, begin: usize, end: usize, left: u32, right: u32, weight: Cost, value: u32) -> Option<usize>
+fn first_pair_cut(
+    chart: &Chart<'_, Cost>,
+    begin: usize,
+    end: usize,
+    left: u32,
+    right: u32,
+    weight: Cost,
+    value: u32,
+) -> Option<usize>
     requires span { ⌜ begin < end ⌝ }
     requires within { ⌜ end ≤ now chart .entries .count ⌝ }
     requires names { ⌜ (left < now chart .entries .nonterminals) × (right < now chart .entries .nonterminals) ⌝ }
@@ -48,7 +65,14 @@ fn first_pair_cut(chart: &Chart<'_, Cost>, begin: usize, end: usize, left: u32, 
 }
 
 // The cut of a leaf rule of this weight, the span's end, where it attains the cost of the span.
-fn leaf_cut(chart: &Chart<'_, Cost>, begin: usize, end: usize, code: u8, weight: Cost, value: u32) -> Option<usize>
+fn leaf_cut(
+    chart: &Chart<'_, Cost>,
+    begin: usize,
+    end: usize,
+    code: u8,
+    weight: Cost,
+    value: u32,
+) -> Option<usize>
     requires span { ⌜ begin < end ⌝ }
     requires within { ⌜ end ≤ now chart .entries .count ⌝ }
     ensures { λ r. ⌜ FirstOf (LeafAttains (state (now (chart .entry) .entries) .entries) weight value begin end code) r ⌝ }
@@ -61,7 +85,14 @@ fn leaf_cut(chart: &Chart<'_, Cost>, begin: usize, end: usize, code: u8, weight:
 }
 
 // The smallest cut at which a rule of this weight attains the cost of the span.
-fn first_cut(chart: &Chart<'_, Cost>, begin: usize, end: usize, expansion: Expansion, weight: Cost, value: u32) -> Option<usize>
+fn first_cut(
+    chart: &Chart<'_, Cost>,
+    begin: usize,
+    end: usize,
+    expansion: Expansion,
+    weight: Cost,
+    value: u32,
+) -> Option<usize>
     requires span { ⌜ begin < end ⌝ }
     requires within { ⌜ end ≤ now chart .entries .count ⌝ }
     requires names { ⌜ Names (now chart .entries .nonterminals) expansion ⌝ }
@@ -69,7 +100,15 @@ fn first_cut(chart: &Chart<'_, Cost>, begin: usize, end: usize, expansion: Expan
 {
     match expansion {
         Expansion::Leaf { code } => leaf_cut(chart, begin, end, code, weight, value),
-        Expansion::Pair { left, right } => first_pair_cut(chart, begin, end, left, right, weight, value),
+        Expansion::Pair { left, right } => first_pair_cut(
+            chart,
+            begin,
+            end,
+            left,
+            right,
+            weight,
+            value,
+        ),
     }
 }
 
@@ -84,7 +123,13 @@ fn parts(expansion: Expansion) -> (u32, u32)
 }
 
 // The rival of the rule at this number with the smallest cut, if there is one.
-fn rival_of<G: Grammar, W: Costing>(chart: &Chart<'_, Cost>, grammar: &G, weighing: &W, node: Node, number: u32) -> Option<Choice>
+fn rival_of<G: Grammar, W: Costing>(
+    chart: &Chart<'_, Cost>,
+    grammar: &G,
+    weighing: &W,
+    node: Node,
+    number: u32,
+) -> Option<Choice>
     requires same { ⌜ meaning (now grammar) .nonterminals ≡ now chart .entries .nonterminals ⌝ }
     requires span { ⌜ node .begin < node .end ⌝ }
     requires within { ⌜ node .end ≤ now chart .entries .count ⌝ }
@@ -99,21 +144,71 @@ fn rival_of<G: Grammar, W: Costing>(chart: &Chart<'_, Cost>, grammar: &G, weighi
     let value = cell(chart, node.begin, node.end, node.nonterminal).value;
     let cut = first_cut(chart, node.begin, node.end, rule.expansion, weight, value)?;
     let (left, right) = parts(rule.expansion);
-    Some(Choice { number, bottom: rule.bottom, left, right, cut })
+    Some(Choice {
+        number,
+        bottom: rule.bottom,
+        left,
+        right,
+        cut,
+    })
+}
+
+// Whether the rule at this number has a rival.
+fn has_rival<G: Grammar, W: Costing>(
+    chart: &Chart<'_, Cost>,
+    grammar: &G,
+    weighing: &W,
+    node: Node,
+    number: u32,
+) -> bool
+    requires same { ⌜ meaning (now grammar) .nonterminals ≡ now chart .entries .nonterminals ⌝ }
+    requires span { ⌜ node .begin < node .end ⌝ }
+    requires within { ⌜ node .end ≤ now chart .entries .count ⌝ }
+    requires named { ⌜ node .nonterminal < now chart .entries .nonterminals ⌝ }
+    ensures { λ r. ⌜ Says r (HasRival (by (costs (now (weighing .entry)))) (meaning (now (grammar .entry))) (state (now (chart .entry) .entries) .entries) (cellAt cost (now (chart .entry) .entries .nonterminals) (now (now (chart .entry) .slots .cells))) (node .begin) (node .end) (node .nonterminal) number) ⌝ }
+{
+    match rival_of(chart, grammar, weighing, node, number) {
+        Some(_) => true,
+        None => false,
+    }
+}
+
+// The lowest rule number that has a rival, if there is one.
+fn first_rule<G: Grammar, W: Costing>(
+    chart: &Chart<'_, Cost>,
+    grammar: &G,
+    weighing: &W,
+    node: Node,
+) -> Option<u32>
+    requires same { ⌜ meaning (now grammar) .nonterminals ≡ now chart .entries .nonterminals ⌝ }
+    requires span { ⌜ node .begin < node .end ⌝ }
+    requires within { ⌜ node .end ≤ now chart .entries .count ⌝ }
+    requires named { ⌜ node .nonterminal < now chart .entries .nonterminals ⌝ }
+    ensures { λ r. ⌜ FirstBelow (meaning (now (grammar .entry)) .bound) (HasRival (by (costs (now (weighing .entry)))) (meaning (now (grammar .entry))) (state (now (chart .entry) .entries) .entries) (cellAt cost (now (chart .entry) .entries .nonterminals) (now (now (chart .entry) .slots .cells))) (node .begin) (node .end) (node .nonterminal)) r ⌝ }
+{
+    for number in 0..grammar.bound() {
+        if has_rival(chart, grammar, weighing, node, number) {
+            return Some(number);
+        }
+    }
+    None
 }
 
 // The first rival at a node, if there is one: by rule number, then by cut.
-pub(crate) fn first_rival<G: Grammar, W: Costing>(chart: &Chart<'_, Cost>, grammar: &G, weighing: &W, node: Node) -> Option<Choice>
+pub(crate) fn first_rival<G: Grammar, W: Costing>(
+    chart: &Chart<'_, Cost>,
+    grammar: &G,
+    weighing: &W,
+    node: Node,
+) -> Option<Choice>
     requires same { ⌜ meaning (now grammar) .nonterminals ≡ now chart .entries .nonterminals ⌝ }
     requires span { ⌜ node .begin < node .end ⌝ }
     requires within { ⌜ node .end ≤ now chart .entries .count ⌝ }
     requires named { ⌜ node .nonterminal < now chart .entries .nonterminals ⌝ }
     ensures { λ r. ⌜ PickedOf (Rival (by (costs (now (weighing .entry)))) (meaning (now (grammar .entry))) (state (now (chart .entry) .entries) .entries) (cellAt cost (now (chart .entry) .entries .nonterminals) (now (now (chart .entry) .slots .cells))) (node .begin) (node .end) (node .nonterminal)) (meaning (now (grammar .entry))) r ⌝ }
 {
-    for number in 0..grammar.bound() {
-        if let Some(choice) = rival_of(chart, grammar, weighing, node, number) {
-            return Some(choice);
-        }
+    match first_rule(chart, grammar, weighing, node) {
+        Some(number) => rival_of(chart, grammar, weighing, node, number),
+        None => None,
     }
-    None
 }

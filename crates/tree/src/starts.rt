@@ -21,11 +21,20 @@ pub(crate) fn node_count(total: Cost, count: usize, records: usize) -> Result<us
         return Err(Refusal::NoDerivation);
     }
     let nodes = (2 * count).saturating_sub(1);
-    if nodes <= records { Ok(nodes) } else { Err(Refusal::FewRecords) }
+    if nodes <= records {
+        Ok(nodes)
+    } else {
+        Err(Refusal::FewRecords)
+    }
 }
 
 // The lowest start whose cell of the first `end` entries has this value.
-pub(crate) fn first_start<G: Grammar>(chart: &Chart<'_, Cost>, grammar: &G, end: usize, value: u32) -> Option<u32>
+pub(crate) fn first_start<G: Grammar>(
+    chart: &Chart<'_, Cost>,
+    grammar: &G,
+    end: usize,
+    value: u32,
+) -> Option<u32>
     requires some { ⌜ 0 < end ⌝ }
     requires within { ⌜ end ≤ now chart .entries .count ⌝ }
     requires same { ⌜ meaning (now grammar) .nonterminals ≡ now chart .entries .nonterminals ⌝ }

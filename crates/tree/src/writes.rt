@@ -19,7 +19,12 @@ use semiring::cost::Cost;
 use semiring::semirings::CostSemiring;
 
 // The first rival at a node; where there is none, a choice that only names parts to go on with.
-fn choose<G: Grammar, W: Costing>(chart: &Chart<'_, Cost>, grammar: &G, weighing: &W, node: Node) -> Choice
+fn choose<G: Grammar, W: Costing>(
+    chart: &Chart<'_, Cost>,
+    grammar: &G,
+    weighing: &W,
+    node: Node,
+) -> Choice
     requires same { ⌜ meaning (now grammar) .nonterminals ≡ now chart .entries .nonterminals ⌝ }
     requires span { ⌜ node .begin < node .end ⌝ }
     requires within { ⌜ node .end ≤ now chart .entries .count ⌝ }
@@ -28,12 +33,25 @@ fn choose<G: Grammar, W: Costing>(chart: &Chart<'_, Cost>, grammar: &G, weighing
 {
     match first_rival(chart, grammar, weighing, node) {
         Some(choice) => choice,
-        None => Choice { number: 0, bottom: 0, left: 0, right: 0, cut: node.begin + 1 },
+        None => Choice {
+            number: 0,
+            bottom: 0,
+            left: 0,
+            right: 0,
+            cut: node.begin + 1,
+        },
     }
 }
 
 // Writes the records of the tree below a node from `at` on, and answers where the next would go.
-pub(crate) fn write_tree<G: Grammar, W: Costing>(chart: &Chart<'_, Cost>, grammar: &G, weighing: &W, node: Node, records: &mut [Record], at: usize) -> usize
+pub(crate) fn write_tree<G: Grammar, W: Costing>(
+    chart: &Chart<'_, Cost>,
+    grammar: &G,
+    weighing: &W,
+    node: Node,
+    records: &mut [Record],
+    at: usize,
+) -> usize
     requires same { ⌜ meaning (now grammar) .nonterminals ≡ now chart .entries .nonterminals ⌝ }
     requires span { ⌜ node .begin < node .end ⌝ }
     requires within { ⌜ node .end ≤ now chart .entries .count ⌝ }
@@ -42,10 +60,24 @@ pub(crate) fn write_tree<G: Grammar, W: Costing>(chart: &Chart<'_, Cost>, gramma
     ensures { λ r. ⌜ Wrote (by (costs (now (weighing .entry)))) (meaning (now (grammar .entry))) (state (now (chart .entry) .entries) .entries) (cellAt cost (now (chart .entry) .entries .nonterminals) (now (now (chart .entry) .slots .cells))) (now (records .entry)) at (node .begin) (node .end) (node .nonterminal) r (now (records .exit)) ⌝ }
 {
     let choice = choose(chart, grammar, weighing, node);
-    records[at] = node.record(choice);
+    node.write(choice, records, at);
     if node.begin + 1 == node.end {
         return at + 1;
     }
-    let next = write_tree(chart, grammar, weighing, node.left_part(choice), records, at + 1);
-    write_tree(chart, grammar, weighing, node.right_part(choice), records, next)
+    let next = write_tree(
+        chart,
+        grammar,
+        weighing,
+        node.left_part(choice),
+        records,
+        at + 1,
+    );
+    write_tree(
+        chart,
+        grammar,
+        weighing,
+        node.right_part(choice),
+        records,
+        next,
+    )
 }

@@ -52,8 +52,8 @@ returns-in-Break-nodes g c =
     let r = c .from-residual-in-Break-nodes .result in
     let is : r ≡ Err why = search needs in
     let said : r ≡ chartAnswer m e xs room =
-        chart-answer m e xs (c .in-Continue-total .total) (c .len-count .result) room r (sym (c .total .ensures .is) ∙ c .in-Continue-total .was tt) (c .len-count .ensures)
-          (sym (c .node-count .ensures) ∙ c .in-Break-nodes .was tt ∙ sym is) in
+    chart-answer m e xs (c .in-Continue-total .total) (c .len-count .result) room r (sym (c .total .ensures .is) ∙ c .in-Continue-total .was tt) (c .len-count .ensures)
+    (sym (c .node-count .ensures) ∙ c .in-Break-nodes .was tt ∙ sym is) in
     record {
       answer = said;
       beyond = on-err _ _ r why is refl;
@@ -66,7 +66,7 @@ pub first-start-requires : need.first-start-requires
 first-start-requires g c κs =
     let e = c .args .chart .now .entries in
     let p = passed (g .G·Grammar .meaning (c .args .grammar .now)) e (c .args .chart .now .slots .cells .now) (c .in-Continue-total .total) (c .len-count .result) (length (c .args .records .now)) (c .in-Continue-nodes .nodes)
-        (sym (c .total .ensures .is) ∙ c .in-Continue-total .was tt) (c .len-count .ensures) (sym (c .node-count .ensures) ∙ c .in-Continue-nodes .was tt) in
+    (sym (c .total .ensures .is) ∙ c .in-Continue-total .was tt) (c .len-count .ensures) (sym (c .node-count .ensures) ∙ c .in-Continue-nodes .was tt) in
     let counted = p .counted in
     let full = p .full in
     record { some = omega arith; within = omega arith; same = p .same }
@@ -75,7 +75,7 @@ pub write-tree-requires : need.write-tree-requires
 write-tree-requires g c κs =
     let e = c .args .chart .now .entries in
     let p = passed (g .G·Grammar .meaning (c .args .grammar .now)) e (c .args .chart .now .slots .cells .now) (c .in-Continue-total .total) (c .len-count .result) (length (c .args .records .now)) (c .in-Continue-nodes .nodes)
-        (sym (c .total .ensures .is) ∙ c .in-Continue-total .was tt) (c .len-count .ensures) (sym (c .node-count .ensures) ∙ c .in-Continue-nodes .was tt) in
+    (sym (c .total .ensures .is) ∙ c .in-Continue-total .was tt) (c .len-count .ensures) (sym (c .node-count .ensures) ∙ c .in-Continue-nodes .was tt) in
     let counted = p .counted in
     let full = p .full in
     let same = p .same in
@@ -90,11 +90,11 @@ unreachable-requires g c κs =
     let xs = c .args .chart .now .slots .cells .now in
     let v = c .in-Continue-total .total in
     let p = passed m e xs v (c .len-count .result) (length (c .args .records .now)) (c .in-Continue-nodes .nodes)
-        (sym (c .total .ensures .is) ∙ c .in-Continue-total .was tt) (c .len-count .ensures) (sym (c .node-count .ensures) ∙ c .in-Continue-nodes .was tt) in
+    (sym (c .total .ensures .is) ∙ c .in-Continue-total .was tt) (c .len-count .ensures) (sym (c .node-count .ensures) ∙ c .in-Continue-nodes .was tt) in
     let d = start-exists m (e .count) xs v (p .is) (p .some) in
     c .in-None .ensures tt (d .0)
-      (subst (λ n. StartAttains m (m .nonterminals) (cellAt cost n xs 0 (c .len-count .result)) (v .value) (d .0)) (p .same)
-        (subst (λ k. StartAttains m (m .nonterminals) (cellAt cost (m .nonterminals) xs 0 k) (v .value) (d .0)) (sym (p .counted)) (d .1)))
+    (subst (λ n. StartAttains m (m .nonterminals) (cellAt cost n xs 0 (c .len-count .result)) (v .value) (d .0)) (p .same)
+    (subst (λ k. StartAttains m (m .nonterminals) (cellAt cost (m .nonterminals) xs 0 k) (v .value) (d .0)) (sym (p .counted)) (d .1)))
 
 pub returns : need.returns
 returns g c =
@@ -117,7 +117,7 @@ returns g c =
       answer = said;
       beyond = ap (drop nodes) (w .puts) ∙ put-back old (w .part) nodes long;
       cheapest = λ stands. whole-tree weight m shown e xs (p .same) stands v (p .is) (p .some) count (c .in-Some .start) (c .len-count .ensures) (c .in-Some .ensures tt) (w .part) _
-        (ap (take nodes) (w .puts) ∙ put-front old (w .part) nodes long) (w .taken);
+          (ap (take nodes) (w .puts) ∙ put-front old (w .part) nodes long) (w .taken);
       none = tells-none weight m shown e xs (length old) (Ok nodes) said;
       every = λ stands. every-cheapest (by weight) m shown (state e .entries) (cellAt cost (m .nonterminals) xs) stands;
     }

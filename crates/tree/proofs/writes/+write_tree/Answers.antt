@@ -2,7 +2,7 @@ use mathlib.Core.Path.{_≡_, sym, subst}
 use mathlib.Core.List.{List}
 use Prim.Native.Nat.{ℕ, _+_, _<_, _≤_}
 use native.Mathlib.Omega.{arith}
-use lib.ListN.{length, set}
+use lib.ListN.{length}
 use Rattle.semiring.specs.Costs.{cost}
 use Rattle.grammar.specs.Totals.{by}
 use Rattle.chart.specs.Cells.{cellAt}
@@ -23,9 +23,9 @@ returns-then-node g t c =
     let cell = cellAt cost (e .nonterminals) (a .chart .now .slots .cells .now) in
     let within : a .node .end ≤ length (state e .entries) = omega (arith, size e) in
     let named : a .node .nonterminal < m .nonterminals = omega arith in
-    subst (λ r. Wrote weigh m (state e .entries) cell (a .records .now) (a .at) (a .node .begin) (a .node .end) (a .node .nonterminal) (a .at + 1) (set (a .records .now) (a .at) r)) (sym (c .record .ensures))
-      (leaf-wrote weigh m (state e .entries) cell (a .node .begin) (a .node .end) (a .node .nonterminal) (c .pre .span) within named
-        (c .choose-choice .result) (c .choose-choice .ensures) (c .if-node .taken) (a .records .now) (a .at) (c .pre .fits))
+    subst (Wrote weigh m (state e .entries) cell (a .records .now) (a .at) (a .node .begin) (a .node .end) (a .node .nonterminal) (a .at + 1)) (sym (c .write .ensures))
+    (leaf-wrote weigh m (state e .entries) cell (a .node .begin) (a .node .end) (a .node .nonterminal) (c .pre .span) within named
+    (c .choose-choice .result) (c .choose-choice .ensures) (c .if-node .taken) (a .records .now) (a .at) (c .pre .fits))
 
 pub returns : need.returns
 returns g t c =
@@ -41,7 +41,7 @@ returns g t c =
     let next = c .write-tree-next .result in
     let Below : List Record → ℕ → Node → ℕ → List Record → Type 0 = λ old at n next new. Wrote weigh m (state e .entries) cell old at (n .begin) (n .end) (n .nonterminal) next new in
     node-wrote weigh m (state e .entries) cell (a .node .begin) (a .node .end) (a .node .nonterminal) (c .pre .span) within named
-      (c .choose-choice .result) (c .choose-choice .ensures) wide (a .records .now) mid (c .write-tree .last .records) (a .at) next (c .write-tree .result) (c .pre .fits)
-      (subst (λ r. Below (set (a .records .now) (a .at) r) (a .at + 1) (nodeAt (a .node .begin) (c .choose-choice .result .cut) (c .choose-choice .result .left)) next mid) (c .record .ensures)
-        (subst (λ n. Below (set (a .records .now) (a .at) (c .record .result)) (a .at + 1) n next mid) (c .left-part .ensures) (c .write-tree-next .ensures)))
-      (subst (λ n. Below mid next n (c .write-tree .result) (c .write-tree .last .records)) (c .right-part .ensures) (c .write-tree .ensures))
+    (c .choose-choice .result) (c .choose-choice .ensures) wide (a .records .now) mid (c .write-tree .last .records) (a .at) next (c .write-tree .result) (c .pre .fits)
+    (subst (λ old. Below old (a .at + 1) (nodeAt (a .node .begin) (c .choose-choice .result .cut) (c .choose-choice .result .left)) next mid) (c .write .ensures)
+    (subst (λ n. Below (c .write .last .records) (a .at + 1) n next mid) (c .left-part .ensures) (c .write-tree-next .ensures)))
+    (subst (λ n. Below mid next n (c .write-tree .result) (c .write-tree .last .records)) (c .right-part .ensures) (c .write-tree .ensures))

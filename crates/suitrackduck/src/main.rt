@@ -1,5 +1,6 @@
 // The program: reads the entries {0,1}{0,1} by the rules S to S S (cost 1), S to 0 (cost 2) and S to 1 (cost 3), and prints whether they can be read,
 // in how many ways, and at what least cost.
+use chart::call::Call;
 use chart::chart::Chart;
 use grammar::grammar::Grammar;
 use grammar::refusal::Refusal;
@@ -10,6 +11,8 @@ use grammar::weighing::CostWeighingWeighing;
 use grammar::weighing::UnitWeighing;
 use grammar::weighing::UnitWeighingWeighing;
 use grammar::weighing::Weighing;
+use runs::replay::Replayed;
+use runs::replay::replay;
 use semiring::cost::Cost;
 use semiring::count::Count;
 use semiring::semiring::Semiring;
@@ -24,7 +27,7 @@ use table::table::TableGrammar;
 
 const BLANK: Rule = Rule { lhs: 0, expansion: Expansion::Leaf { code: 0 }, cost: 0, bottom: 0 };
 
-const ENTRIES: [u32; 2] = [0b11, 0b11];
+const CALLS: [Call; 2] = [Call::Append(0b11), Call::Append(0b11)];
 
 // The grammar of the three rules, over rows that are lent.
 fn rules(rows: &mut [Rule]) -> Table<'_> {
@@ -38,10 +41,12 @@ fn rules(rows: &mut [Rule]) -> Table<'_> {
 // The total of the entries by a weighing.
 fn total<S: Semiring, G: Grammar, W: Weighing<Value = S>>(slots: &mut [S], grammar: &G, weighing: &W) -> Result<S, Refusal> {
     let mut chart = Chart::new(slots, grammar);
-    for bits in ENTRIES {
-        chart.append(grammar, weighing, bits)?;
+    let mut costs = [Cost::zero(); 3];
+    let Replayed { total, tree: _, trial } = replay(&mut chart, &mut costs, grammar, weighing, &CALLS, &mut [], &mut []);
+    if let Some(trial) = trial {
+        chart.keep(trial)?;
     }
-    chart.total(grammar)
+    total
 }
 
 // Whether the entries can be read, in how many ways, and at what least cost.

@@ -51,6 +51,13 @@ pub(crate) fn add_to_cell<S: Semiring>(slots: &mut [S], n: usize, begin: usize, 
     slots[at] = slots[at].add(value);
 }
 
+// The sum with a cut more: the weight times the left part times the right part.
+fn with_cut<S: Semiring>(sum: S, weight: S, left: S, right: S) -> S
+    ensures { λ r. ⌜ r ≡ ring .plus sum (ring .times weight (ring .times left right)) ⌝ }
+{
+    sum.add(weight.mul(left.mul(right)))
+}
+
 // Adds a pair rule's share to its cell: at each cut its weight times the left cell times the right cell.
 // The sum runs in a local, with running slots of the left and the right cell, and is written once.
 pub(crate) fn add_cuts<S: Semiring>(slots: &mut [S], n: usize, begin: usize, end: usize, lhs: usize, left: usize, right: usize, weight: S)
@@ -64,7 +71,7 @@ pub(crate) fn add_cuts<S: Semiring>(slots: &mut [S], n: usize, begin: usize, end
     let mut l = first_slot(n, begin, begin + 1) + left;
     let mut r = first_slot(n, begin + 1, end) + right;
     for cut in begin + 1..end {
-        sum = sum.add(weight.mul(slots[l].mul(slots[r])));
+        sum = with_cut(sum, weight, slots[l], slots[r]);
         l += cut * n;
         r += n;
     }

@@ -86,16 +86,16 @@ loop-cut-again g c =
         getD-read (a .slots .now) (l .l) _ in-left (c .index-slots-l .is) (m .ring .zero) in
     let right : c .index-slots-r .result ≡ getD (a .slots .now) (l .r) (m .ring .zero) =
         getD-read (a .slots .now) (l .r) _ in-right (c .index-slots-r .is) (m .ring .zero) in
-    let term : c .mul-in-loop-cut .result ≡ f k =
-        c .mul-in-loop-cut .ensures
-        ∙ ap (m .ring .times (a .weight)) (c .mul .ensures ∙ ap₂ (m .ring .times)
+    let product = m .ring .times (a .weight) (m .ring .times (c .index-slots-l .result) (c .index-slots-r .result)) in
+    let term : product ≡ f k =
+        ap (m .ring .times (a .weight)) (ap₂ (m .ring .times)
             (left ∙ ap (λ i. getD (a .slots .now) i (m .ring .zero)) (l .inv .0))
             (right ∙ ap (λ i. getD (a .slots .now) i (m .ring .zero)) (l .inv .1)))
         ∙ ap (λ j. m .ring .times (a .weight) (m .ring .times (cell (a .begin) j (a .left)) (cell j (a .end) (a .right)))) (sym here) in
     (omega (arith, l .inv .0, place-wider (a .n) (a .begin) (l .cut) (a .left)),
      omega (arith, l .inv .1, place-next (a .n) (l .cut) (a .end) (a .right)),
-     cuts-step (g .S·Semiring·met .laws) f k (cell (a .begin) (a .end) (a .lhs)) (l .sum) (c .mul-in-loop-cut .result) (c .add-sum .result)
-       (l .inv .2) term (c .add-sum .ensures)
+     cuts-step (g .S·Semiring·met .laws) f k (cell (a .begin) (a .end) (a .lhs)) (l .sum) product (c .with-cut-sum .result)
+       (l .inv .2) term (c .with-cut-sum .ensures)
      ∙ ap (λ j. m .ring .plus (cell (a .begin) (a .end) (a .lhs)) (sumBelow (m .ring) j f)) (sym more))
 
 pub returns : need.returns

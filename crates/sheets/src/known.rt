@@ -47,7 +47,7 @@ fn total<S: Semiring, G: Grammar, W: Weighing<Value = S>>(slots: &mut [S], gramm
 }
 
 // The grammar gives the sheet its count and its cost.
-pub fn check_sheet<G: Grammar>(grammar: &G, sheet: Sheet) -> Result<(), Fail> {
+pub(crate) fn check_sheet<G: Grammar>(grammar: &G, sheet: Sheet) -> Result<(), Fail> {
     let mut count_slots = [Count::zero(); 741];
     let mut cost_slots = [Cost::zero(); 741];
     check_eq(total(&mut count_slots, grammar, &UnitWeighing::new(), sheet)?.value, sheet.count)?;

@@ -6,7 +6,7 @@ use table::table::Table;
 
 pub const BLANK: Rule = Rule { lhs: 0, expansion: Expansion::Leaf { code: 0 }, cost: 0, bottom: 0 };
 
-pub fn known_rules(rows: &mut [Rule]) -> Table<'_> {
+pub(crate) fn known_rules(rows: &mut [Rule]) -> Table<'_> {
     let mut draft = Draft::new(rows, 1, 2, 0);
     let _ = draft.add(0, Expansion::Pair { left: 0, right: 0 }, 1);
     let _ = draft.add(0, Expansion::Leaf { code: 0 }, 2);

@@ -17,7 +17,7 @@ pub struct Wide {
 }
 
 impl Wide {
-    pub fn new(nonterminals: u32, bound: u32) -> Wide {
+    pub(crate) fn new(nonterminals: u32, bound: u32) -> Wide {
         Wide {
             nonterminals: nonterminals.max(1).min(4096),
             bound: bound.max(3).min(16777216),

@@ -1,7 +1,6 @@
 #!/bin/sh
 # Compares a program with the plain one on the four large jobs: the answers
-# must agree; then the instructions that each takes are counted, and the time
-# of five runs of each is taken.
+# must agree; then the instructions that each takes are counted.
 # Usage: run.sh PROGRAM
 set -eu
 here=$(cd "$(dirname "$0")" && pwd)
@@ -20,36 +19,20 @@ instructions() {
     sed -n 's/.*Collected : *\([0-9]*\).*/\1/p' "$build/log"
 }
 
-# The microseconds that one of five runs of a program takes for a job.
-microseconds() {
-    start=$(date +%s%N)
-    for _ in 1 2 3 4 5; do
-        "$1" < "$2" > /dev/null
-    done
-    echo $((($(date +%s%N) - start) / 5000))
-}
-
-ratio() {
-    awk "BEGIN { printf \"%.2f\", $1 / $2 }"
-}
-
 result=0
-printf '%-13s %13s %11s %7s %9s %8s %7s\n' job instructions plain ratio time plain ratio
+printf '%-14s %14s %14s %8s\n' job program plain ratio
 for name in entries nonterminals pattern widest; do
     job=$here/jobs/$name.job
     "$program" < "$job" > "$build/program.out" || true
     "$build/plain" < "$job" > "$build/plain.out"
     if ! cmp -s "$build/program.out" "$build/plain.out"; then
-        printf '%-13s the answers differ\n' "$name"
+        printf '%-14s the answers differ\n' "$name"
         result=1
         continue
     fi
     ours=$(instructions "$program" "$job")
     plain=$(instructions "$build/plain" "$job")
-    time=$(microseconds "$program" "$job")
-    plain_time=$(microseconds "$build/plain" "$job")
-    printf '%-13s %13s %11s %7s %9s %8s %7s\n' "$name" \
-        "$ours" "$plain" "$(ratio "$ours" "$plain")" \
-        "$time" "$plain_time" "$(ratio "$time" "$plain_time")"
+    ratio=$(awk "BEGIN { printf \"%.2f\", $ours / $plain }")
+    printf '%-14s %14s %14s %8s\n' "$name" "$ours" "$plain" "$ratio"
 done
 exit $result

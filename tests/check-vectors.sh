@@ -1,5 +1,5 @@
 #!/bin/sh
-# Puts every stored job, those of crates/vectors/data, to a program and compares the answers.
+# Puts every job of tests/vectors.txt to a program and compares the answers.
 # Usage: check-vectors.sh PROGRAM
 set -eu
 here=$(cd "$(dirname "$0")" && pwd)
@@ -10,4 +10,4 @@ esac
 build=$(mktemp -d)
 trap 'rm -rf "$build"' EXIT
 rustc -O --edition 2021 -o "$build/reference" "$here/reference/main.rs"
-"$build/reference" check "$program" < "$here/../crates/vectors/data/vectors.txt"
+"$build/reference" check "$program" < "$here/vectors.txt"

@@ -1,7 +1,7 @@
 //! Makes jobs: whole and damaged ones, of every shape.
 //!
 //! The kinds are listed in `KINDS`, each with how many of it one round has and
-//! the function that makes the i-th of them. A round has 425 jobs. The same
+//! the function that makes the i-th of them. A round has 400 jobs. The same
 //! index and seed always make the same job; another seed or another round
 //! makes others of the same kinds.
 
@@ -68,21 +68,20 @@ const KINDS: &[(&str, usize, fn(&mut Dice, usize) -> Vec<u8>)] = &[
     ("fault 9 by entries", 2, too_many_entries),
     ("fault 9 by slots", 14, slots_passed),
     ("fault 15 and its edge", 22, out_of_range),
-    ("fault 16, empty or cut, and the whole", 49, cut),
+    ("fault 16, empty or cut", 48, cut),
     ("fault 16, no such command", 10, no_command),
     ("fault 16, order", 24, order),
     ("fault 16, no end", 4, no_end),
     ("fault 16, bytes after the end", 6, after_end),
-    ("fault 16, over 4096 bytes", 3, too_long),
+    ("fault 16, over 4096 bytes", 2, too_long),
     ("two faults", 8, two_faults),
-    ("damaged at random", 30, damaged),
-    ("random bytes", 20, random_bytes),
+    ("damaged at random", 27, damaged),
 ];
 
 /// The kind and the bytes of the job with this index.
 pub fn job(index: usize, seed: u64) -> (&'static str, Vec<u8>) {
     let round: usize = KINDS.iter().map(|kind| kind.1).sum();
-    assert!(round % 149 != 0);
+    assert!(round == 400);
     // Steps of 149 reach each place of the round once and mix the kinds.
     let mut place = index * 149 % round;
     let mut dice = Dice(seed.wrapping_mul(1_000_003).wrapping_add(index as u64));
@@ -1078,8 +1077,7 @@ fn each_command(dice: &mut Dice) -> Commands {
     commands
 }
 
-/// The same, with so many of its bytes left; the first of these is empty, the
-/// last is whole.
+/// The same, with so many of its bytes left; the first of these is empty.
 fn cut(dice: &mut Dice, index: usize) -> Vec<u8> {
     let whole = each_command(dice).concat();
     assert!(whole.len() == 48);
@@ -1160,21 +1158,16 @@ fn after_end(dice: &mut Dice, index: usize) -> Vec<u8> {
     commands.concat()
 }
 
-/// 4,097 bytes: a whole job and one byte, and a job that is faulted earlier
-/// too; and many more bytes.
+/// 4,097 bytes: a whole job and one byte, and a job that is faulted earlier too.
 fn too_long(dice: &mut Dice, index: usize) -> Vec<u8> {
-    match index {
-        0 => {
-            let mut job = of_bytes(dice, 4096);
-            job.push(0x0B);
-            job
-        }
-        1 => {
-            let mut job = of_bytes(dice, 4097);
-            job[1] = 0;
-            job
-        }
-        _ => of_bytes(dice, 8192),
+    if index == 0 {
+        let mut job = of_bytes(dice, 4096);
+        job.push(0x0B);
+        job
+    } else {
+        let mut job = of_bytes(dice, 4097);
+        job[1] = 0;
+        job
     }
 }
 
@@ -1231,20 +1224,6 @@ fn damaged(dice: &mut Dice, _: usize) -> Vec<u8> {
             _ => bytes.insert(at, dice.below(12) as u8),
         }
     }
-    bytes
-}
-
-/// Bytes that are no job at all; bytes of commands alone; and such bytes after
-/// a grammar that is in range.
-fn random_bytes(dice: &mut Dice, index: usize) -> Vec<u8> {
-    let mut bytes = Vec::new();
-    if index % 4 > 1 {
-        let nonterminals = dice.from(1, 32);
-        bytes.extend(grammar(nonterminals, dice.from(1, 32), dice.below(nonterminals)));
-    }
-    let bound = if index % 2 == 0 { 256 } else { 12 };
-    let many = [1, 2, 5, 20, 300, 4000][dice.below(6)];
-    bytes.extend((0..many).map(|_| dice.below(bound) as u8));
     bytes
 }
 

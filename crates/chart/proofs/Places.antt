@@ -3,8 +3,7 @@ use Rattle.std.proofs.Common.{◌≡◌, ℕ, zero, suc, ◌+◌, ◌-◌, ◌*�
 use native.Mathlib.Nat.{add-mul-div_right}
 use Rattle.std.proofs.lemmas.Bool.{cases_lt}
 use Rattle.std.proofs.lemmas.Nat.{mul-le}
-use Rattle.entries.specs.Spans.{triangle}
-use Rattle.chart.specs.Cells.{place, Room}
+use Rattle.chart.specs.Cells.{triangle, place, Room}
 
 twice : (n : ℕ) → (n + 1) * ((n + 1) - 1) ≡ n * (n - 1) + n * 2
 twice zero = refl

@@ -12,12 +12,11 @@ use Rattle.grammar.proofs.Closure.{total_none}
 use Rattle.grammar.proofs.Shapes.{entries_length, some_leaf}
 use Rattle.grammar.proofs.Spanning.{span_all}
 use Rattle.grammar.proofs.Starts.{total_starts}
-use Rattle.entries.specs.declared.list.Entries.{Entries}
+use Rattle.chart.specs.declared.entries.Entries.{Entries}
 use Rattle.chart.specs.Cells.{cell_at}
-use Rattle.entries.specs.Model.{state}
-use Rattle.chart.specs.Stands.{ChartStands}
+use Rattle.chart.specs.Model.{state, ChartStands}
 use Rattle.chart.specs.Reads.{whole_total, total_answer}
-use Rattle.entries.proofs.Listing.{size}
+use Rattle.chart.proofs.Listing.{size}
 
 -- the value that the call answers
 pub answered : {S : Type 0} (s : Operations S) (m : Meaning) (n count : ℕ) (xs : List S) (v : S) → m.nonterminals ≡ n → v ≡ whole_total s m count xs → Ok v ≡ total_answer s m n count xs

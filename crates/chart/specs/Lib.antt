@@ -1,6 +1,4 @@
 pub mod Cells
-pub mod Gathers
-pub mod Sums
 pub mod Columns
-pub mod Stands
+pub mod Model
 pub mod Reads

@@ -1,13 +1,12 @@
-// The calls that write no slot: clear, take back, keep and withdraw. What they do is what they do to the entries.
+// The calls that write no slot: clear, take back, keep and withdraw.
 ghost use Rattle.std.specs.Prelude.{◌≡◌, ℕ, Ok};
 ghost use Rattle.grammar.specs.Grammars.{Meaning};
-ghost use Rattle.entries.specs.Model.{Terms, Did};
-ghost use Rattle.entries.specs.declared.call.Call.{Call};
-ghost use Rattle.chart.specs.Stands.{ChartStands};
+ghost use Rattle.chart.specs.Model.{Terms, Did, ChartStands};
+ghost use Rattle.chart.specs.declared.call.Call.{Call};
 
+use super::call::Call;
 use super::chart::Chart;
-use entries::call::Call;
-use entries::trial::Trial;
+use super::trial::Trial;
 use grammar::refusal::Refusal;
 use semiring::semiring::Semiring;
 
@@ -19,7 +18,8 @@ impl<'a, S: Semiring> Chart<'a, S> {
         ensures same { self.new.slots.cells.now ≡ self.old.slots.cells.now }
         ensures named { self.new.slots.cells.ghost_name ≡ self.old.slots.cells.ghost_name }
     {
-        self.entries.clear();
+        self.entries.count = 0;
+        self.entries.trial = false;
     }
 
     // Removes the last entry.
@@ -29,7 +29,14 @@ impl<'a, S: Semiring> Chart<'a, S> {
         ensures same { self.new.slots.cells.now ≡ self.old.slots.cells.now }
         ensures named { self.new.slots.cells.ghost_name ≡ self.old.slots.cells.ghost_name }
     {
-        self.entries.take_back()
+        if self.entries.trial {
+            return Err(Refusal::TrialOpen);
+        }
+        if self.entries.count == 0 {
+            return Err(Refusal::NoEntry);
+        }
+        self.entries.count -= 1;
+        Ok(())
     }
 
     // Spends the token and clears the mark.
@@ -39,7 +46,12 @@ impl<'a, S: Semiring> Chart<'a, S> {
         ensures same { self.new.slots.cells.now ≡ self.old.slots.cells.now }
         ensures named { self.new.slots.cells.ghost_name ≡ self.old.slots.cells.ghost_name }
     {
-        self.entries.keep(trial)
+        trial.spend();
+        if !self.entries.trial {
+            return Err(Refusal::NoTrial);
+        }
+        self.entries.trial = false;
+        Ok(())
     }
 
     // Spends the token, clears the mark and removes the last entry.
@@ -49,6 +61,8 @@ impl<'a, S: Semiring> Chart<'a, S> {
         ensures same { self.new.slots.cells.now ≡ self.old.slots.cells.now }
         ensures named { self.new.slots.cells.ghost_name ≡ self.old.slots.cells.ghost_name }
     {
-        self.entries.withdraw(trial)
+        self.keep(trial)?;
+        self.entries.count = self.entries.count.saturating_sub(1);
+        Ok(())
     }
 }

@@ -1,13 +1,14 @@
 // The chart: a table over slots that the caller provides, with a cell for each span of entries and nonterminal. Each call keeps every cell in use the total of its derivations.
 mod appends;
+pub mod call;
 mod cells;
 pub mod chart;
 mod columns;
 mod edits;
-mod filling;
-mod gathered;
+pub mod entries;
+pub mod entry;
 mod reads;
 mod replaces;
-mod shares;
 pub mod slots;
-mod sums;
+pub mod trial;
+mod trials;

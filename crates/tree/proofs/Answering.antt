@@ -16,12 +16,11 @@ use Rattle.grammar.specs.Costs.{cost_of}
 use Rattle.grammar.proofs.Truths.{true_of, not_both}
 use Rattle.grammar.proofs.Cheapest.{total_least, below_none}
 use Rattle.grammar.proofs.Spanning.{stands_filled}
-use Rattle.entries.specs.declared.list.Entries.{Entries}
+use Rattle.chart.specs.declared.entries.Entries.{Entries}
 use Rattle.chart.specs.Cells.{cell_at}
-use Rattle.entries.specs.Model.{state}
-use Rattle.chart.specs.Stands.{ChartStands}
+use Rattle.chart.specs.Model.{state, ChartStands}
 use Rattle.chart.specs.Reads.{whole_total, total_answer}
-use Rattle.entries.proofs.Listing.{size}
+use Rattle.chart.proofs.Listing.{size}
 use Rattle.chart.proofs.Totalling.{some_whole, total_stands}
 use Rattle.tree.specs.declared.record.Record.{Record}
 use Rattle.tree.specs.Trees.{nodes_answer, tree_answer, chart_answer, ChartCheapest, WeighsCost, TellsNone}

@@ -9,10 +9,9 @@ use Rattle.grammar.specs.Grammars.{Meaning}
 use Rattle.grammar.specs.Derivations.{Tree, leaf, node, leaves, EntriesFromStarts}
 use Rattle.grammar.specs.Totals.{by}
 use Rattle.grammar.specs.Costs.{cost_of}
-use Rattle.entries.specs.declared.list.Entries.{Entries}
+use Rattle.chart.specs.declared.entries.Entries.{Entries}
 use Rattle.chart.specs.Cells.{cell_at}
-use Rattle.entries.specs.Model.{state}
-use Rattle.chart.specs.Stands.{ChartStands}
+use Rattle.chart.specs.Model.{state, ChartStands}
 use Rattle.chart.specs.Reads.{whole_total, total_answer}
 use Rattle.tree.specs.declared.record.Record.{Record}
 use Rattle.tree.specs.Rivals.{ByRivals, ByFirst}

@@ -1,7 +1,7 @@
 // The tree of a cost chart: the records of a cheapest derivation of its entries.
 ghost use Rattle.std.specs.Prelude.{◌≡◌, length, take, drop, IfOk, MatchResult};
 ghost use Rattle.semiring.specs.Costs.{cost};
-ghost use Rattle.chart.specs.Stands.{ChartStands};
+ghost use Rattle.chart.specs.Model.{ChartStands};
 ghost use Rattle.tree.specs.Trees.{chart_answer, ChartCheapest, TellsNone, ChartEvery};
 
 use chart::chart::Chart;
@@ -9,7 +9,6 @@ use grammar::grammar::Grammar;
 use grammar::refusal::Refusal;
 use grammar::weighing::Weighing;
 use node::Node;
-use reads::len;
 use record::Record;
 use semiring::cost::Cost;
 use starts::{first_start, node_count};
@@ -38,7 +37,7 @@ pub fn tree<G: Grammar, W: Weighing<Value = Cost>>(
     ensures every { ChartStands cost (weight weighing.now) (meaning grammar.now) chart.now.entries chart.now.slots.cells.now → ChartEvery (weight weighing.now) (meaning grammar.now) chart.now.entries chart.now.slots.cells.now }
 {
     let total = chart.total(grammar)?;
-    let count = len(chart);
+    let count = chart.len();
     let nodes = node_count(total, count, records.len())?;
     match first_start(chart, grammar, count, total.value) {
         Some(start) => {

@@ -1,6 +1,5 @@
 use Rattle.std.proofs.Common.{refl, arith}
-use Rattle.entries.specs.Spans.{triangle}
-use Rattle.chart.specs.Cells.{place}
+use Rattle.chart.specs.Cells.{place, triangle}
 use Rattle.chart.proofs.Places.{inside}
 use Rattle.chart.proofs.cells.place.Goals as goal
 

@@ -1,16 +1,9 @@
-use Rattle.std.proofs.Common.{refl}
-use Rattle.chart.proofs.Fewer.{front_ghosts, front_stands}
+use Rattle.std.proofs.Common.{length, arith}
+use Rattle.chart.proofs.Fewer.{fewer_room}
 use Rattle.chart.proofs.chart.Chart.clear.Goals as goal
 
-pub returns : goal.returns
-returns g c =
+pub invariant-of-self-3 : goal.invariant-of-self-3
+invariant-of-self-3 g c =
     let t = c.args.self.now in
-    record {
-      did = c.clear.ensures.did;
-      stands = λ w m. front_stands g.S.Semiring.ring w m t.entries c.clear.new.self t.slots.cells.now c.clear.ensures.front;
-      same = refl;
-      named = refl;
-    }
-
-pub invariant-of-self : goal.invariant-of-self
-invariant-of-self g c = front_ghosts c.args.self.now c.clear.new.self c.clear.ensures.front
+    let e = t.entries in
+    (fewer_room e.nonterminals 0 e.count (length t.slots.cells.now) (omega arith) e.few e.narrow t.room, tt)

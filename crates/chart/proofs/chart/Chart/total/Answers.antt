@@ -7,17 +7,18 @@ use Rattle.chart.specs.Cells.{cell_at}
 use Rattle.chart.specs.Reads.{whole_total, total_answer}
 use Rattle.chart.proofs.Totalling.{answer_stands, answered, none_whole, some_whole}
 use Rattle.chart.proofs.chart.Chart.total.Goals as goal
+use Rattle.chart.proofs.chart.Chart.total.Goals.{then-is-start, else-is-start}
 
-pub returns-then-len-eq0 : goal.returns-then-len-eq0
-returns-then-len-eq0 g c =
+pub returns-then-self-eq0 : goal.returns-then-self-eq0
+returns-then-self-eq0 g c =
     let m = g.G.Grammar.meaning c.args.grammar.now in
     let e = c.args.self.now.entries in
     let xs = c.args.self.now.slots.cells.now in
     let ring = g.S.Semiring.ring in
     let r : Result g.row.S.Denot Refusal = Ok c.zero-sum.result in
     let is : r ≡ total_answer ring m e.nonterminals e.count xs =
-    answered ring m e.nonterminals e.count xs c.zero-sum.result (sym c.nonterminals.ensures ∙ c.if-nonterminals-n.false ∙ c.nonterminals-n.ensures)
-    (c.zero-sum.ensures ∙ sym (none_whole ring m e.count xs (sym c.len.ensures.count ∙ c.if-len-eq0.true))) in
+    answered ring m e.nonterminals e.count xs c.zero-sum.result (sym c.nonterminals.ensures ∙ c.if-nonterminals-n.false)
+    (c.zero-sum.ensures ∙ sym (none_whole ring m e.count xs c.if-self-eq0.true)) in
     record { is = is; total = λ w. answer_stands g.met.S.Semiring.laws (by w) m (g.G.Grammar.shown c.args.grammar.now) e xs r is }
 
 pub loop-a-init : goal.loop-a-init
@@ -31,7 +32,12 @@ loop-a-preserved g c =
     let ring = g.S.Semiring.ring in
     let value = λ (A : ℕ). cond (m.start A) (cell_at ring e.nonterminals xs 0 e.count A) ring.zero in
     let a = c.loop-a.a in
-    c.add-sum.ensures ∙ ap₂ ring.plus c.loop-a.invariant c.start-cell.ensures ∙ sym (sum_more ring a value)
+    let here = cell_at ring e.nonterminals xs 0 e.count a in
+    let added : c.if-is-start.sum ≡ ring.plus c.loop-a.sum (value a) = elim c.if-is-start.branch [
+      | then-is-start w ↦ w.sum-is ∙ w.add-sum.ensures ∙ ap (ring.plus c.loop-a.sum) (w.cell.ensures ∙ sym (ap (λ t. cond t here ring.zero) (sym c.is-start.ensures ∙ w.if-is-start.true)))
+      | else-is-start w ↦ w.sum-is ∙ sym (ap (ring.plus c.loop-a.sum) (ap (λ t. cond t here ring.zero) (sym c.is-start.ensures ∙ w.if-is-start.false)) ∙ g.met.S.Semiring.laws.plus_zero c.loop-a.sum)
+    ] in
+    added ∙ ap (λ x. ring.plus x (value a)) c.loop-a.invariant ∙ sym (sum_more ring a value)
 
 pub returns : goal.returns
 returns g c =
@@ -41,9 +47,9 @@ returns g c =
     let ring = g.S.Semiring.ring in
     let r : Result g.row.S.Denot Refusal = Ok c.loop-a.sum in
     let is : r ≡ total_answer ring m e.nonterminals e.count xs =
-    let own : m.nonterminals ≡ e.nonterminals = sym c.nonterminals.ensures ∙ c.if-nonterminals-n.false ∙ c.nonterminals-n.ensures in
-    let done : c.loop-a.a ≡ e.nonterminals = omega (arith, c.nonterminals-n.ensures) in
+    let own : m.nonterminals ≡ e.nonterminals = sym c.nonterminals.ensures ∙ c.if-nonterminals-n.false in
+    let done : c.loop-a.a ≡ e.nonterminals = omega arith in
     answered ring m e.nonterminals e.count xs c.loop-a.sum own
     (c.loop-a.invariant ∙ ap₂ (λ k n. sum_below ring k (λ A. cond (m.start A) (cell_at ring n xs 0 e.count A) ring.zero)) (done ∙ sym own) (sym own)
-    ∙ sym (some_whole ring m e.count xs (λ z. c.if-len-eq0.false (c.len.ensures.count ∙ z)))) in
+    ∙ sym (some_whole ring m e.count xs c.if-self-eq0.false)) in
     record { is = is; total = λ w. answer_stands g.met.S.Semiring.laws (by w) m (g.G.Grammar.shown c.args.grammar.now) e xs r is }

@@ -1,0 +1,35 @@
+// Adding an entry on trial.
+ghost use Rattle.std.specs.Prelude.{◌≡◌, ℕ, ◌+◌, false, length, IfOk, MatchResult};
+ghost use Rattle.grammar.specs.Totals.{by};
+ghost use Rattle.chart.specs.Columns.{Column};
+ghost use Rattle.chart.specs.Model.{terms, plain, Did, ChartStands};
+ghost use Rattle.chart.specs.declared.call.Call.{Call};
+
+use super::call::Call;
+use super::chart::Chart;
+use super::trial::Trial;
+use grammar::grammar::Grammar;
+use grammar::refusal::Refusal;
+use grammar::weighing::Weighing;
+use semiring::semiring::Semiring;
+
+impl<'a, S: Semiring> Chart<'a, S> {
+    // Adds an entry at the end, sets the mark, and hands out the token that keep or withdraw takes back.
+    pub fn try_append<G: Grammar, W: Weighing<Value = S>>(
+        &mut self,
+        grammar: &G,
+        weighing: &W,
+        bits: u32,
+    ) -> Result<Trial, Refusal>
+        ensures did { Did (terms (meaning grammar.now) self.old.entries.nonterminals (length self.old.slots.cells.now)) self.old.entries (Call.Try bits) (plain result) self.new.entries }
+        ensures unspent { IfOk result (λ t. t.spent ≡ false) }
+        ensures writes { MatchResult result (λ _. Column ring (by (weight weighing.now)) (meaning grammar.now) bits 0 (self.old.entries.count + 1) (self.old.entries.count + 1) self.old.slots.cells.now self.new.slots.cells.now) (λ _. self.new ≡ self.old) }
+        ensures stands { ChartStands ring (weight weighing.now) (meaning grammar.now) self.old.entries self.old.slots.cells.now → ChartStands ring (weight weighing.now) (meaning grammar.now) self.new.entries self.new.slots.cells.now }
+        ensures long { length self.new.slots.cells.now ≡ length self.old.slots.cells.now }
+        ensures named { self.new.slots.cells.ghost_name ≡ self.old.slots.cells.ghost_name }
+    {
+        self.append(grammar, weighing, bits)?;
+        self.entries.trial = true;
+        Ok(Trial::open())
+    }
+}

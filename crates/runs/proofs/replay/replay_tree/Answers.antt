@@ -1,0 +1,33 @@
+use Rattle.std.proofs.Common.{◌≡◌, List, [], length, sym, refl, ap, ◌∙◌, subst, ap₂, arith}
+use Rattle.semiring.specs.Costs.{cost}
+use Rattle.chart.specs.Cells.{cell_at}
+use Rattle.chart.specs.Model.{State, state, empty, terms}
+use Rattle.chart.specs.Reads.{whole_total}
+use Rattle.runs.specs.Runs.{run}
+use Rattle.runs.specs.Trees.{TreeAfter}
+use Rattle.runs.proofs.Treeing.{chart_answer_lem, cheapest_records}
+use Rattle.runs.proofs.replay.replay_tree.Goals as goal
+
+pub returns : goal.returns
+returns g c =
+    let m = g.G.Grammar.meaning c.args.grammar.now in
+    let cs = c.args.calls.now in
+    let fresh = c.new-chart.ensures in
+    let ran = c.run-calls-trial.ensures in
+    let e = c.run-calls-trial.new.chart.entries in
+    let xs = c.run-calls-trial.new.chart.slots.cells.now in
+    let old = c.args.records.now in
+    let new = c.tree-answer.new.records in
+    let r = c.tree-answer.result in
+    let told = c.tree-answer.ensures in
+    let own : m.nonterminals ≡ e.nonterminals = sym (ran.own ∙ fresh.own) in
+    let same = ap₂ (terms m) fresh.own (ap length fresh.same) in
+    let after : state e ≡ run (terms m m.nonterminals (length c.args.slots.now)) empty cs = ran.after ∙ ap₂ (λ t x. run t x cs) same fresh.empty in
+    let none : (state c.new-chart.result.entries).entries ≡ [] = ap (λ (s : State). s.entries) fresh.empty in
+    let stands = ran.stands (λ begin end A some fits. absurd (let nil = ap length none in omega arith)) in
+    subst (λ es. TreeAfter m es old new r) (ap (λ (s : State). s.entries) after) (record {
+      answer = chart_answer_lem m e xs (length old) r own told.answer;
+      cheapest = cheapest_records m (state e).entries (cell_at cost m.nonterminals xs) (whole_total cost m e.count xs) new r (told.cheapest stands);
+      beyond = told.beyond;
+      none = told.none own (λ k bottom. refl) stands;
+    })

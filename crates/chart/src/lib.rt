@@ -1,4 +1,6 @@
 // The chart: a table over slots that the caller provides, with a cell for each span of entries and nonterminal. Each call keeps every cell in use the total of its derivations.
+#![tactic(auto)]
+
 mod appends;
 pub mod call;
 mod cells;

@@ -1,4 +1,6 @@
 // A job from its bytes to its answer: the commands describe a grammar and entries, and the answer says in how many ways the entries can be derived.
+#![tactic(auto)]
+
 pub mod answering;
 mod appending;
 mod appends;

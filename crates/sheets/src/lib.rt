@@ -1,4 +1,6 @@
 // Tests over whole sheets: known entries with known answers, run through grammars, layers, chart, tree and lists of calls.
+#![tactic(auto)]
+
 #[cfg(test)]
 mod known;
 #[cfg(test)]

@@ -1,5 +1,7 @@
 // The program: reads the entries {0,1}{0,1} by the rules S to S S (cost 1), S to 0 (cost 2) and S to 1 (cost 3), and prints whether they can be read,
 // in how many ways, and at what least cost.
+#![tactic(auto)]
+
 use chart::call::Call;
 use chart::chart::Chart;
 use grammar::grammar::Grammar;

@@ -1,4 +1,6 @@
 // The table grammar: a draft takes rules into rows that the caller lends, and once sealed it is a grammar and takes no more.
+#![tactic(auto)]
+
 pub mod draft;
 pub mod drafting;
 pub mod table;

@@ -1,4 +1,6 @@
 // The tree of a cost chart: the records of a cheapest derivation of its entries.
+#![tactic(auto)]
+
 ghost use Rattle.std.specs.Prelude.{◌≡◌, length, take, drop, IfOk, MatchResult};
 ghost use Rattle.semiring.specs.Costs.{cost};
 ghost use Rattle.chart.specs.Model.{ChartStands};

@@ -1,4 +1,6 @@
 // The program: runs the stored jobs through the library, and prints how many get their stored answer.
+#![tactic(auto)]
+
 mod hex;
 mod misread;
 mod stored;

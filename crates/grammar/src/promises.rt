@@ -6,15 +6,15 @@ use semiring::semiring::Semiring;
 
 // The zero of a semiring.
 fn zero_of<S: Semiring>() -> S
-    ensures { result ≡ ring.zero }
+    ensures { result ≡ S.ring.zero }
 {
     S::zero()
 }
 
 // What no derivation at all adds up to. The sum over rules and cuts is the total of all derivations, each once.
 pub fn sum_of_none<S: Semiring>() -> S
-    ensures zero { result ≡ ring.zero }
-    ensures sums { SumsAreTotals ring }
+    ensures zero { result ≡ S.ring.zero }
+    ensures sums { SumsAreTotals S.ring }
 {
     zero_of()
 }

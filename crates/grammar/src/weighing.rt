@@ -48,7 +48,7 @@ impl<S: Semiring> UnitWeighing<S> {
 impl<S: Semiring> Weighing for UnitWeighing<S> {
     type Value = S;
 
-    ghost weight = { λ _ _ _. ring.one };
+    ghost weight = { λ _ _ _. S.ring.one };
 
     fn weigh(&self, _rule: &Rule) -> S {
         S::one()

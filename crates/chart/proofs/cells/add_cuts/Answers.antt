@@ -19,8 +19,8 @@ loop-cut-init g c =
     let read : c.index-slots-at.result ≡ cell a.begin a.end a.lhs =
     get_or_read a.slots.now c.place-at.result _ c.place-at.ensures.inside c.index-slots-at.is m.ring.zero
     ∙ ap (λ i. get_or a.slots.now i m.ring.zero) c.place-at.ensures.is in (
-      omega (arith, c.first-slot.ensures.is, place_from a.n a.begin (a.begin + 1) a.left),
-      omega (arith, c.first-slot-2.ensures.is, place_from a.n (a.begin + 1) a.end a.right),
+      omega (arith, c.first_slot.ensures.is, place_from a.n a.begin (a.begin + 1) a.left),
+      omega (arith, c.first_slot-2.ensures.is, place_from a.n (a.begin + 1) a.end a.right),
       read ∙ sym (ap (λ k. m.ring.plus (cell a.begin a.end a.lhs) (sum_below m.ring k f)) none
           ∙ ap (m.ring.plus (cell a.begin a.end a.lhs)) (sum_none m.ring f) ∙ laws.plus_zero (cell a.begin a.end a.lhs)),
     )
@@ -31,8 +31,8 @@ bounds-slots-l g c =
     let r = room_before a.n c.loop-cut.cut a.end (length a.slots.now) (omega arith) c.requires.room in
     omega (arith, c.loop-cut.invariant.0, inside a.n a.begin c.loop-cut.cut a.left (length a.slots.now) (omega arith) c.requires.names.1 r.fits)
 
-pub offset-bounds-slots-l : goal.offset-bounds-slots-l
-offset-bounds-slots-l g c =
+pub offset_bounds-slots-l : goal.offset_bounds-slots-l
+offset_bounds-slots-l g c =
     let h : c.loop-cut.l < length c.args.slots.now = bounds-slots-l g c in
     search rules
 
@@ -41,18 +41,18 @@ bounds-slots-r g c =
     let a = c.args in
     omega (arith, c.loop-cut.invariant.1, inside a.n c.loop-cut.cut a.end a.right (length a.slots.now) (omega arith) c.requires.names.2 c.requires.room.fits)
 
-pub offset-bounds-slots-r : goal.offset-bounds-slots-r
-offset-bounds-slots-r g c =
+pub offset_bounds-slots-r : goal.offset_bounds-slots-r
+offset_bounds-slots-r g c =
     let h : c.loop-cut.r < length c.args.slots.now = bounds-slots-r g c in
     search rules
 
-pub overflow-mul-l : goal.overflow-mul-l
-overflow-mul-l g c =
+pub overflow_mul-l : goal.overflow_mul-l
+overflow_mul-l g c =
     let a = c.args in
     omega (arith, mul-le-mul {n₁ = c.loop-cut.cut} {m₁ = a.n} {n₂ = 64} {m₂ = 4096} (omega (arith, c.requires.room.few)) c.requires.room.narrow)
 
-pub overflow-add-l-in-loop-cut : goal.overflow-add-l-in-loop-cut
-overflow-add-l-in-loop-cut g c =
+pub overflow_add-l-in-loop-cut : goal.overflow_add-l-in-loop-cut
+overflow_add-l-in-loop-cut g c =
     let a = c.args in
     omega (
       arith,
@@ -62,8 +62,8 @@ overflow-add-l-in-loop-cut g c =
       place_small a.n a.begin (c.loop-cut.cut + 1) c.requires.room.narrow (omega (arith, c.requires.room.few)) (omega arith),
     )
 
-pub overflow-add-r-in-loop-cut : goal.overflow-add-r-in-loop-cut
-overflow-add-r-in-loop-cut g c =
+pub overflow_add-r-in-loop-cut : goal.overflow_add-r-in-loop-cut
+overflow_add-r-in-loop-cut g c =
     let a = c.args in
     omega (
       arith,
@@ -100,8 +100,8 @@ loop-cut-preserved g c =
     ∙ ap (λ j. m.ring.times a.weight (m.ring.times (cell a.begin j a.left) (cell j a.end a.right))) (sym here) in (
       omega (arith, l.invariant.0, place_wider a.n a.begin l.cut a.left),
       omega (arith, l.invariant.1, place_next a.n l.cut a.end a.right),
-      cuts_step g.met.S.Semiring.laws f k (cell a.begin a.end a.lhs) l.sum product c.with-cut-sum.result
-          l.invariant.2 term c.with-cut-sum.ensures
+      cuts_step g.met.S.Semiring.laws f k (cell a.begin a.end a.lhs) l.sum product c.with_cut-sum.result
+          l.invariant.2 term c.with_cut-sum.ensures
           ∙ ap (λ j. m.ring.plus (cell a.begin a.end a.lhs) (sum_below m.ring j f)) (sym more),
     )
 

@@ -4,8 +4,8 @@ use Rattle.chart.specs.Cells.{Room, Names}
 use Rattle.chart.proofs.Rows.{names_of}
 use Rattle.chart.proofs.columns.add_number.Goals as goal
 
-pub add-rule-requires : goal.add-rule-requires
-add-rule-requires g c =
+pub add_rule-requires : goal.add_rule-requires
+add_rule-requires g c =
     let m = g.G.Grammar.meaning c.args.grammar.now in
     let shown = g.G.Grammar.shown c.args.grammar.now in
     let sound = shown.rules c.args.number c.in-Some.rule (sym c.in-Some.ensures) in

@@ -13,7 +13,7 @@ pub loop-number-preserved : goal.loop-number-preserved
 loop-number-preserved g c =
     let m = g.G.Grammar.meaning c.args.grammar.now in
     row_more g.met.W.Value.Semiring.laws (by (g.W.Weighing.weight c.args.weighing.now)) m c.args.last.bits c.args.begin c.args.end c.args.slots.now
-    c.loop-number.number c.loop-number.slots c.loop-number.invariant c.add-number.new.slots c.requires.span
+    c.loop-number.number c.loop-number.slots c.loop-number.invariant c.add_number.new.slots c.requires.span
     (subst (Room m.nonterminals c.args.end) (sym c.loop-number.auto.slots) c.requires.room)
     (g.G.Grammar.shown c.args.grammar.now)
-    c.add-number.ensures
+    c.add_number.ensures

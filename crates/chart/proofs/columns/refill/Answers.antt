@@ -8,8 +8,8 @@ use Rattle.chart.proofs.Places.{room_before}
 use Rattle.chart.proofs.Refills.{refilled_none, refilled_more}
 use Rattle.chart.proofs.columns.refill.Goals as goal
 
-pub fill-column-requires : goal.fill-column-requires
-fill-column-requires g c =
+pub fill_column-requires : goal.fill_column-requires
+fill_column-requires g c =
     let m = g.G.Grammar.meaning c.args.grammar.now in
     record {
       room = subst (Room m.nonterminals c.loop-end.end) (sym c.loop-end.auto.slots)
@@ -31,8 +31,8 @@ loop-end-preserved g c =
     let x = c.index-entries-end.result in
     let last : x.bits ≡ get_or (map bits_of entries) k 0 = ap bits_of c.index-entries-end.is ∙ sym (get_or-map bits_of entries k x 0 here) in
     refilled_more g.met.W.Value.Semiring.laws (by (g.W.Weighing.weight c.args.weighing.now)) (g.G.Grammar.meaning c.args.grammar.now) (g.G.Grammar.shown c.args.grammar.now)
-    (map bits_of c.args.entries.now) c.args.k c.args.slots.now c.loop-end.end _ c.loop-end.slots c.fill-column.new.slots
-    (omega arith) last c.loop-end.invariant c.fill-column.ensures
+    (map bits_of c.args.entries.now) c.args.k c.args.slots.now c.loop-end.end _ c.loop-end.slots c.fill_column.new.slots
+    (omega arith) last c.loop-end.invariant c.fill_column.ensures
 
 pub returns : goal.returns
 returns g c =

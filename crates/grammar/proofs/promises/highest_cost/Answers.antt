@@ -5,7 +5,7 @@ use Rattle.grammar.proofs.promises.highest_cost.Goals as goal
 
 pub returns : goal.returns
 returns c = record {
-  is = c.cost-of-nodes.ensures;
+  is = c.cost_of_nodes.ensures;
   most = λ m shown A es t long d. omega (arith, entries_bound m shown A es t d);
   least = record {
     from_each = λ weigh m es A v. total_least weigh m (DerivesEntries m A es) v;

@@ -8,7 +8,7 @@ pub returns : goal.returns
 returns g c =
     let laws = g.met.S.Semiring.laws in
     record {
-      zero = c.zero-of.ensures;
+      zero = c.zero_of.ensures;
       sums = record {
         spans = λ weigh m shown. span_step laws weigh m shown;
         filled = record {

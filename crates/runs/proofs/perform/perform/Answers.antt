@@ -25,13 +25,13 @@ returns-in-TakeBack g c =
     let m = g.G.Grammar.meaning c.args.grammar.now in
     let e = c.args.chart.now.entries in
     let t = terms m e.nonterminals (length c.args.chart.now.slots.cells.now) in
-    let did = c.take-back.ensures.did t in
+    let did = c.take_back.ensures.did t in
     record {
-      did = subst (λ k. Did t e k c.take-back.result c.take-back.new.self.entries) (sym c.in-TakeBack.is) did;
+      did = subst (λ k. Did t e k c.take_back.result c.take_back.new.self.entries) (sym c.in-TakeBack.is) did;
       held = c.requires ∙ sym (ap (λ (s : State). s.trial) did.moved ∙ take_back_mark (answer t (state e) TakeBack) (state e));
-      stands = c.take-back.ensures.stands (g.W.Weighing.weight c.args.weighing.now) m;
-      long = ap length c.take-back.ensures.same;
-      named = c.take-back.ensures.named;
+      stands = c.take_back.ensures.stands (g.W.Weighing.weight c.args.weighing.now) m;
+      long = ap length c.take_back.ensures.same;
+      named = c.take_back.ensures.named;
     }
 
 pub returns-in-Some-held : goal.returns-in-Some-held

@@ -4,8 +4,8 @@ use Rattle.layers.proofs.Stacked.{one_for_one_all, same_weight_all}
 use Rattle.runs.specs.Runs.{run, answers}
 use Rattle.runs.proofs.replay.replay.Goals as goal
 
-pub run-calls-trial-requires : goal.run-calls-trial-requires
-run-calls-trial-requires g c = sym (ap (λ (s : State). s.trial) (c.clear.ensures.did (record { own = 0; slots = 0; shown = 0; codes = 0 })).moved)
+pub run_calls-trial-requires : goal.run_calls-trial-requires
+run_calls-trial-requires g c = sym (ap (λ (s : State). s.trial) (c.clear.ensures.did (record { own = 0; slots = 0; shown = 0; codes = 0 })).moved)
 
 pub returns : goal.returns
 returns g c =
@@ -17,7 +17,7 @@ returns g c =
     let d = c.clear.new.self.entries in
     let t = terms m e.nonterminals (length c.args.chart.now.slots.cells.now) in
     let did = c.clear.ensures.did t in
-    let ran = c.run-calls-trial.ensures in
+    let ran = c.run_calls-trial.ensures in
     let same = ap₂ (terms m) did.own (ap length c.clear.ensures.same) in
     let none : (state d).entries ≡ [] = ap (λ (s : State). s.entries) did.moved in
     let stands = ran.stands (λ begin end A some fits. absurd (let nil = ap length none in omega arith)) in
@@ -31,7 +31,7 @@ returns g c =
       total = c.total-total.ensures.total w stands;
       matches = one_for_one_all;
       weighs = same_weight_all g.met.S.Semiring.laws;
-      tree = c.replay-tree-tree.ensures;
+      tree = c.replay_tree-tree.ensures;
       own = ran.own ∙ did.own;
       long = ran.long ∙ ap length c.clear.ensures.same;
       named = ran.named ∙ c.clear.ensures.named;

@@ -14,7 +14,7 @@ returns-in-Some g c =
     let m = g.G.Grammar.meaning a.grammar.now in
     let found = c.in-Some.ensures in
     picked_first (Rival (by (g.W.Costing.costs a.weighing.now)) m (state a.chart.now.entries).entries (cell_at cost a.chart.now.entries.nonterminals a.chart.now.slots.cells.now) a.node.begin a.node.end a.node.nonterminal)
-    m c.in-Some.number (λ j early h r. found.1 j early (h, r)) found.0.0 found.0.1 c.rival-of.result c.rival-of.ensures
+    m c.in-Some.number (λ j early h r. found.1 j early (h, r)) found.0.0 found.0.1 c.rival_of.result c.rival_of.ensures
 
 pub returns-in-None : goal.returns-in-None
 unfolding HasRival

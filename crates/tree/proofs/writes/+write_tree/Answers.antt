@@ -33,11 +33,11 @@ returns g t c =
     let within : a.node.end ≤ length (state e).entries = omega (arith, size e) in
     let named : a.node.nonterminal < m.nonterminals = omega arith in
     let wide : a.node.begin + 1 < a.node.end = omega (arith, c.if-node.false) in
-    let mid = c.write-tree-next.new.records in
-    let next = c.write-tree-next.result in
+    let mid = c.write_tree-next.new.records in
+    let next = c.write_tree-next.result in
     let Below : List Record → ℕ → Node → ℕ → List Record → Type 0 = λ old at n next new. Wrote weigh m (state e).entries cell old at n.begin n.end n.nonterminal next new in
     node_wrote weigh m (state e).entries cell a.node.begin a.node.end a.node.nonterminal c.requires.span within named
-    c.choose-choice.result c.choose-choice.ensures wide a.records.now mid c.write-tree.new.records a.at next c.write-tree.result c.requires.fits
+    c.choose-choice.result c.choose-choice.ensures wide a.records.now mid c.write_tree.new.records a.at next c.write_tree.result c.requires.fits
     (subst (λ old. Below old (a.at + 1) (node_at a.node.begin c.choose-choice.result.cut c.choose-choice.result.left) next mid) c.write.ensures
-    (subst (λ n. Below c.write.new.records (a.at + 1) n next mid) c.left-part.ensures c.write-tree-next.ensures))
-    (subst (λ n. Below mid next n c.write-tree.result c.write-tree.new.records) c.right-part.ensures c.write-tree.ensures)
+    (subst (λ n. Below c.write.new.records (a.at + 1) n next mid) c.left_part.ensures c.write_tree-next.ensures))
+    (subst (λ n. Below mid next n c.write_tree.result c.write_tree.new.records) c.right_part.ensures c.write_tree.ensures)

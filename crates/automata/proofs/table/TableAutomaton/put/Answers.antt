@@ -2,8 +2,8 @@ use Rattle.std.proofs.Common.{◌≡◌, length, arith, rules}
 use Rattle.automata.specs.Laws.Machined.{below_set, table_written}
 use Rattle.automata.proofs.table.TableAutomaton.put.Goals as goal
 
-pub invariant-of-self : goal.invariant-of-self
-invariant-of-self c =
+pub invariant_of-self : goal.invariant_of-self
+invariant_of-self c =
     let s = c.args.self.now in
     (s.some, (s.few, (s.readable, (s.coded, (s.begins, ((λ i h. below_set s.next _ _ s.states i (omega arith) (s.within i h)), tt))))))
 

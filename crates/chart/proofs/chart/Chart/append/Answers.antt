@@ -22,8 +22,8 @@ returns g c =
     let ys = c.fill.new.self.cells.now in
     let t = terms m e.nonterminals (length xs) in
     let said : verdict (entry_tests t e.count e.trial bits) ≡ Ok tt = search rules in
-    let same : c.in-ok-entry.entry.bits ≡ bits = c.in-ok-entry.ensures.1 in
-    let more = pushed e.list e.count c.in-ok-entry.entry (omega (arith, e.long)) ∙ ap (λ b. (state e).entries ++ (b ∷ [])) same in
+    let same : c.in_ok-entry.entry.bits ≡ bits = c.in_ok-entry.ensures.1 in
+    let more = pushed e.list e.count c.in_ok-entry.entry (omega (arith, e.long)) ∙ ap (λ b. (state e).entries ++ (b ∷ [])) same in
     let column : Column ring w m bits 0 (e.count + 1) (e.count + 1) xs ys = subst (λ b. Column ring w m b 0 (e.count + 1) (e.count + 1) xs ys) same c.fill.ensures.filled in
     record {
       did = accepted t e _ (Append bits) (entry_verdict t e bits (Ok tt) said) (λ i. record { entries = more i; trial = e.trial }) refl;
@@ -36,19 +36,19 @@ returns g c =
       named = c.fill.ensures.named;
     }
 
-pub returns-in-err-entry : goal.returns-in-err-entry
-returns-in-err-entry g c =
+pub returns-in_err-entry : goal.returns-in_err-entry
+returns-in_err-entry g c =
     let e = c.args.self.now.entries in
     let m = g.G.Grammar.meaning c.args.grammar.now in
     let bits = c.args.bits in
     let xs = c.args.self.now.slots.cells.now in
     let t = terms m e.nonterminals (length xs) in
-    let why = c.in-err-entry.field-0.0 in
+    let why = c.in_err-entry.field-0.0 in
     let said : verdict (entry_tests t e.count e.trial bits) ≡ Err why = search rules in
-    let is : c.from-residual.result ≡ Err why = search rules in
+    let is : c.from_residual.result ≡ Err why = search rules in
     record {
       did = subst (λ r. Did t e (Append bits) r e) (sym is) (refused t e (Append bits) why (entry_verdict t e bits (Err why) said));
-      writes = on_err _ _ c.from-residual.result why is (ap (λ (p : triangle (e.count + 1) * e.nonterminals ≤ length xs). record { slots = c.args.self.now.slots; entries = e; room = p }) (le_prop _ _));
+      writes = on_err _ _ c.from_residual.result why is (ap (λ (p : triangle (e.count + 1) * e.nonterminals ≤ length xs). record { slots = c.args.self.now.slots; entries = e; room = p }) (le_prop _ _));
       stands = λ before. before;
       long = refl;
       named = refl;

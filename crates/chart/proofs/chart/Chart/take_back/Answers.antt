@@ -9,8 +9,8 @@ use Rattle.chart.proofs.Fewer.{fewer_room, fewer_stands}
 use Rattle.chart.proofs.Listing.{size, shorter}
 use Rattle.chart.proofs.chart.Chart.take_back.Goals as goal
 
-pub invariant-of-self : goal.invariant-of-self
-invariant-of-self g c =
+pub invariant_of-self : goal.invariant_of-self
+invariant_of-self g c =
     let t = c.args.self.now in
     let e = t.entries in
     let few : e.count - 1 ≤ 64 = omega (arith, e.few) in

@@ -7,7 +7,7 @@ use Rattle.chart.specs.Cells.{cell_at}
 use Rattle.chart.specs.Reads.{whole_total, total_answer}
 use Rattle.chart.proofs.Totalling.{answer_stands, answered, none_whole, some_whole}
 use Rattle.chart.proofs.chart.Chart.total.Goals as goal
-use Rattle.chart.proofs.chart.Chart.total.Goals.{then-is-start, else-is-start}
+use Rattle.chart.proofs.chart.Chart.total.Goals.{then-is_start, else-is_start}
 
 pub returns-then-self-eq0 : goal.returns-then-self-eq0
 returns-then-self-eq0 g c =
@@ -33,9 +33,9 @@ loop-a-preserved g c =
     let value = λ (A : ℕ). cond (m.start A) (cell_at ring e.nonterminals xs 0 e.count A) ring.zero in
     let a = c.loop-a.a in
     let here = cell_at ring e.nonterminals xs 0 e.count a in
-    let added : c.if-is-start.sum ≡ ring.plus c.loop-a.sum (value a) = elim c.if-is-start.branch [
-      | then-is-start w ↦ w.sum-is ∙ w.add-sum.ensures ∙ ap (ring.plus c.loop-a.sum) (w.cell.ensures ∙ sym (ap (λ t. cond t here ring.zero) (sym c.is-start.ensures ∙ w.if-is-start.true)))
-      | else-is-start w ↦ w.sum-is ∙ sym (ap (ring.plus c.loop-a.sum) (ap (λ t. cond t here ring.zero) (sym c.is-start.ensures ∙ w.if-is-start.false)) ∙ g.met.S.Semiring.laws.plus_zero c.loop-a.sum)
+    let added : c.if-is_start.sum ≡ ring.plus c.loop-a.sum (value a) = elim c.if-is_start.branch [
+      | then-is_start w ↦ w.sum-is ∙ w.add-sum.ensures ∙ ap (ring.plus c.loop-a.sum) (w.cell.ensures ∙ sym (ap (λ t. cond t here ring.zero) (sym c.is_start.ensures ∙ w.if-is_start.true)))
+      | else-is_start w ↦ w.sum-is ∙ sym (ap (ring.plus c.loop-a.sum) (ap (λ t. cond t here ring.zero) (sym c.is_start.ensures ∙ w.if-is_start.false)) ∙ g.met.S.Semiring.laws.plus_zero c.loop-a.sum)
     ] in
     added ∙ ap (λ x. ring.plus x (value a)) c.loop-a.invariant ∙ sym (sum_more ring a value)
 

@@ -11,9 +11,9 @@ pub returns : goal.returns
 returns g c =
     let e = c.args.self.now.entries in
     let f = c.keep.new.self.entries in
-    let kept = c.in-ok-keep.ensures in
-    let left = c.saturating-sub-self.result in
-    let less : left ≡ f.count - 1 = c.saturating-sub-self.ensures in
+    let kept = c.in_ok-keep.ensures in
+    let left = c.saturating_sub-self.result in
+    let less : left ≡ f.count - 1 = c.saturating_sub-self.ensures in
     -- the state after keep
     let moved : (t : Terms) → state f ≡ does (state e) Keep = λ t. (kept.did t).moved ∙ ap (λ r. after r (state e) Keep) (sym (kept.did t).answered) in
     let last : (t : Terms) → map bits_of (take left f.list) ≡ but_last (state e).entries = λ t.
@@ -29,13 +29,13 @@ returns g c =
       named = kept.named;
     }
 
-pub returns-in-err-keep : goal.returns-in-err-keep
-returns-in-err-keep g c =
+pub returns-in_err-keep : goal.returns-in_err-keep
+returns-in_err-keep g c =
     let e = c.args.self.now.entries in
     let f = c.keep.new.self.entries in
-    let kept = c.in-err-keep.ensures in
-    let why = c.in-err-keep.field-0.0 in
-    let is : c.from-residual.result ≡ Err why = search rules in
+    let kept = c.in_err-keep.ensures in
+    let why = c.in_err-keep.field-0.0 in
+    let is : c.from_residual.result ≡ Err why = search rules in
     record {
       did = λ t. subst (λ r. Did t e Withdraw r f) (sym is) (record {
         answered = (kept.did t).answered;
@@ -47,10 +47,10 @@ returns-in-err-keep g c =
       named = kept.named;
     }
 
-pub invariant-of-self : goal.invariant-of-self
-invariant-of-self g c =
+pub invariant_of-self : goal.invariant_of-self
+invariant_of-self g c =
     let t = c.keep.new.self in
     let f = t.entries in
-    let left = c.saturating-sub-self.result in
+    let left = c.saturating_sub-self.result in
     let few : left ≤ 64 = omega (arith, f.few) in
     ((f.long, (few, (f.narrow, tt))), (fewer_room f.nonterminals left f.count (length t.slots.cells.now) (omega arith) f.few f.narrow t.room, tt))

@@ -21,10 +21,10 @@ returns-then-finished c =
 halts : (r : Reader) (f : Fault) → f ≡ record { refusal = BadJob; place = r.place } → Halted r → Stopped r r f
 halts r f e k = record { same = refl; refusal = ap (λ x. x.refusal) e; reason = inr (k, ap (λ x. x.place) e) }
 
-pub returns-in-default : goal.returns-in-default
-returns-in-default c =
+pub returns-in_default : goal.returns-in_default
+returns-in_default c =
     let r = c.args.self.now in
-    let nothing : NoCommand (drop r.place r.input.now) = subst NoCommand (take_rest r.input.now r.place) c.in-default.ensures in
+    let nothing : NoCommand (drop r.place r.input.now) = subst NoCommand (take_rest r.input.now r.place) c.in_default.ensures in
     let k : Halted r = record {
       short = omega arith;
       stuck = λ d rest b. absurd (nothing d rest b);
@@ -33,18 +33,18 @@ returns-in-default c =
     let t = halts r c.fault.result c.fault.ensures k in
     record { step = t; read = λ before h. reads r before h r (Err c.fault.result) t }
 
-pub returns-in-default-after : goal.returns-in-default-after
-returns-in-default-after c =
+pub returns-in_default-after : goal.returns-in_default-after
+returns-in_default-after c =
     let r = c.args.self.now in
     let front : Begins (drop r.place r.input.now) c.in-Some.command c.in-Some.rest.now = sym (take_rest r.input.now r.place) ∙ c.in-Some.ensures in
-    let out : next_stage r.stage c.in-Some.command ≡ None = sym c.in-default-after.ensures in
+    let out : next_stage r.stage c.in-Some.command ≡ None = sym c.in_default-after.ensures in
     let k : Halted r = record {
       short = omega arith;
       stuck = λ d rest b. ap (next_stage r.stage) (same_command _ d c.in-Some.command rest c.in-Some.rest.now b front) ∙ out;
       unfinished = more r.stage r.place (length r.input.now) (sym c.if-finished.ensures) r.within;
     } in
-    let t = halts r c.fault-in-default-after.result c.fault-in-default-after.ensures k in
-    record { step = t; read = λ before h. reads r before h r (Err c.fault-in-default-after.result) t }
+    let t = halts r c.fault-in_default-after.result c.fault-in_default-after.ensures k in
+    record { step = t; read = λ before h. reads r before h r (Err c.fault-in_default-after.result) t }
 
 pub returns : goal.returns
 returns c =

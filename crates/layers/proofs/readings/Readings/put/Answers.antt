@@ -2,7 +2,7 @@ use Rattle.std.proofs.Common.{arith}
 use Rattle.layers.specs.Laws.Renamed.{set_within}
 use Rattle.layers.proofs.readings.Readings.put.Goals as goal
 
-pub invariant-of-self : goal.invariant-of-self
-invariant-of-self c =
+pub invariant_of-self : goal.invariant_of-self
+invariant_of-self c =
     let s = c.args.self.now in
     (s.some, (s.few, (set_within s.codes c.args.recorder c.args.code (omega arith) s.within, tt)))

@@ -2,8 +2,8 @@ use Rattle.std.proofs.Common.{replicate, None, arith}
 use Rattle.layers.specs.Laws.Renamed.{nones, none_within, none_read}
 use Rattle.layers.proofs.readings.Readings.unread.Goals as goal
 
-pub invariant-of-result : goal.invariant-of-result
-invariant-of-result c = (omega arith, (omega arith, (none_within (replicate 32 None) (nones 32), tt)))
+pub invariant_of-result : goal.invariant_of-result
+invariant_of-result c = (omega arith, (omega arith, (none_within (replicate 32 None) (nones 32), tt)))
 
 pub returns : goal.returns
 returns c = none_read c.args.count (replicate 32 None) (nones 32)

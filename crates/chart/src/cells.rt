@@ -33,7 +33,7 @@ pub(crate) fn cell<S: Semiring>(slots: &[S], n: usize, begin: usize, end: usize,
     requires room { cells.Room n end (length slots.now) }
     requires span { begin < end }
     requires named { a < n }
-    ensures { result ≡ cells.cell_at ring n slots.now begin end a }
+    ensures { result ≡ cells.cell_at S.ring n slots.now begin end a }
 {
     slots[place(slots, n, begin, end, a)]
 }
@@ -50,7 +50,7 @@ pub(crate) fn add_to_cell<S: Semiring>(
     requires room { cells.Room n end (length slots.old) }
     requires span { begin < end }
     requires named { a < n }
-    ensures { slots.new ≡ cells.added ring n slots.old begin end a value }
+    ensures { slots.new ≡ cells.added S.ring n slots.old begin end a value }
 {
     let at = place(slots, n, begin, end, a);
     slots[at] = slots[at].add(value);
@@ -58,7 +58,7 @@ pub(crate) fn add_to_cell<S: Semiring>(
 
 // The sum with a cut more: the weight times the left part times the right part.
 fn with_cut<S: Semiring>(sum: S, weight: S, left: S, right: S) -> S
-    ensures { result ≡ ring.plus sum (ring.times weight (ring.times left right)) }
+    ensures { result ≡ S.ring.plus sum (S.ring.times weight (S.ring.times left right)) }
 {
     sum.add(weight.mul(left.mul(right)))
 }
@@ -78,7 +78,7 @@ pub(crate) fn add_cuts<S: Semiring>(
     requires room { cells.Room n end (length slots.old) }
     requires span { begin < end }
     requires names { (lhs < n) × (left < n) × (right < n) }
-    ensures { slots.new ≡ cells.added ring n slots.old begin end lhs (sum_below ring (end - (begin + 1)) (cut_term ring (cells.cell_at ring n slots.old) weight begin end left right)) }
+    ensures { slots.new ≡ cells.added S.ring n slots.old begin end lhs (sum_below S.ring (end - (begin + 1)) (cut_term S.ring (cells.cell_at S.ring n slots.old) weight begin end left right)) }
 {
     let at = place(slots, n, begin, end, lhs);
     let mut sum = slots[at];
@@ -106,7 +106,7 @@ pub(crate) fn add_rule<S: Semiring>(
     requires span { begin < end }
     requires lhs { rule.now.lhs < n }
     requires names { cells.Names n rule.now.expansion }
-    ensures { slots.new ≡ cells.added ring n slots.old begin end rule.now.lhs (share ring (cells.cell_at ring n slots.old) weight last.bits begin end rule.now.expansion) }
+    ensures { slots.new ≡ cells.added S.ring n slots.old begin end rule.now.lhs (share S.ring (cells.cell_at S.ring n slots.old) weight last.bits begin end rule.now.expansion) }
 {
     match rule.expansion {
         Expansion::Pair { left, right } => {

@@ -21,9 +21,9 @@ fn add_number<G: Grammar, W: Weighing>(
     last: Entry,
     number: u32,
 )
-    requires room { cells.Room (meaning grammar.now).nonterminals end (length slots.old) }
+    requires room { cells.Room (G.meaning grammar.now).nonterminals end (length slots.old) }
     requires span { begin < end }
-    ensures { slots.new ≡ columns.with_rule W.Value.Semiring.ring (by (weight weighing.now)) (meaning grammar.now).nonterminals last.bits begin end slots.old ((meaning grammar.now).rule number) }
+    ensures { slots.new ≡ columns.with_rule W.Value.Semiring.ring (by (W.weight weighing.now)) (G.meaning grammar.now).nonterminals last.bits begin end slots.old ((G.meaning grammar.now).rule number) }
 {
     let n = grammar.nonterminals() as usize;
     if let Some(rule) = grammar.rule(number) {
@@ -41,9 +41,9 @@ fn fill_row<G: Grammar, W: Weighing>(
     end: usize,
     last: Entry,
 )
-    requires room { cells.Room (meaning grammar.now).nonterminals end (length slots.old) }
+    requires room { cells.Room (G.meaning grammar.now).nonterminals end (length slots.old) }
     requires span { begin < end }
-    ensures { columns.Row W.Value.Semiring.ring (by (weight weighing.now)) (meaning grammar.now) last.bits begin end (meaning grammar.now).bound slots.old slots.new }
+    ensures { columns.Row W.Value.Semiring.ring (by (W.weight weighing.now)) (G.meaning grammar.now) last.bits begin end (G.meaning grammar.now).bound slots.old slots.new }
 {
     for number in 0..grammar.bound() {
         add_number(slots, grammar, weighing, begin, end, last, number);
@@ -52,7 +52,7 @@ fn fill_row<G: Grammar, W: Weighing>(
 
 // Sets every slot to zero.
 fn set_zero<S: Semiring>(slots: &mut [S])
-    ensures { slots.new ≡ replicate (length slots.old) ring.zero }
+    ensures { slots.new ≡ replicate (length slots.old) S.ring.zero }
 {
     for slot in slots.iter_mut() {
         *slot = S::zero();
@@ -64,7 +64,7 @@ fn clear_column<S: Semiring>(slots: &mut [S], n: usize, upto: usize, end: usize)
     requires room { cells.Room n end (length slots.old) }
     requires some { (0 < end) × (0 < n) }
     requires part { upto ≤ end }
-    ensures { columns.Cleared ring n end upto slots.old slots.new }
+    ensures { columns.Cleared S.ring n end upto slots.old slots.new }
 {
     let first = place(slots, n, 0, end, 0);
     let past = first + upto * n;
@@ -80,10 +80,10 @@ pub(crate) fn fill_column<G: Grammar, W: Weighing>(
     end: usize,
     last: Entry,
 )
-    requires room { cells.Room (meaning grammar.now).nonterminals end (length slots.old) }
+    requires room { cells.Room (G.meaning grammar.now).nonterminals end (length slots.old) }
     requires some { 0 < end }
     requires part { upto ≤ end }
-    ensures { columns.Column W.Value.Semiring.ring (by (weight weighing.now)) (meaning grammar.now) last.bits 0 upto end slots.old slots.new }
+    ensures { columns.Column W.Value.Semiring.ring (by (W.weight weighing.now)) (G.meaning grammar.now) last.bits 0 upto end slots.old slots.new }
 {
     clear_column(slots, grammar.nonterminals() as usize, upto, end);
     for begin in (0..upto).rev() {
@@ -99,9 +99,9 @@ pub(crate) fn refill<G: Grammar, W: Weighing>(
     entries: &[Entry],
     k: usize,
 )
-    requires room { cells.Room (meaning grammar.now).nonterminals (length entries.now) (length slots.old) }
+    requires room { cells.Room (G.meaning grammar.now).nonterminals (length entries.now) (length slots.old) }
     requires entry { k < length entries.now }
-    ensures { columns.Refilled W.Value.Semiring.ring (by (weight weighing.now)) (meaning grammar.now) (map bits_of entries.now) k (length entries.now + 1) slots.old slots.new }
+    ensures { columns.Refilled W.Value.Semiring.ring (by (W.weight weighing.now)) (G.meaning grammar.now) (map bits_of entries.now) k (length entries.now + 1) slots.old slots.new }
 {
     for end in k + 1..entries.len() + 1 {
         fill_column(slots, grammar, weighing, k + 1, end, entries[end - 1]);

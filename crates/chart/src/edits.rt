@@ -14,7 +14,7 @@ impl<'a, S: Semiring> Chart<'a, S> {
     // Empties the list of entries and clears the mark.
     pub fn clear(&mut self)
         ensures did { (t : Terms) → Did t self.old.entries Call.Clear (Ok tt) self.new.entries }
-        ensures stands { (w : ℕ → ℕ → S) (m : Meaning) → ChartStands ring w m self.old.entries self.old.slots.cells.now → ChartStands ring w m self.new.entries self.new.slots.cells.now }
+        ensures stands { (w : ℕ → ℕ → S) (m : Meaning) → ChartStands S.ring w m self.old.entries self.old.slots.cells.now → ChartStands S.ring w m self.new.entries self.new.slots.cells.now }
         ensures same { self.new.slots.cells.now ≡ self.old.slots.cells.now }
         ensures named { self.new.slots.cells.ghost_name ≡ self.old.slots.cells.ghost_name }
     {
@@ -25,7 +25,7 @@ impl<'a, S: Semiring> Chart<'a, S> {
     // Removes the last entry.
     pub fn take_back(&mut self) -> Result<(), Refusal>
         ensures did { (t : Terms) → Did t self.old.entries Call.TakeBack result self.new.entries }
-        ensures stands { (w : ℕ → ℕ → S) (m : Meaning) → ChartStands ring w m self.old.entries self.old.slots.cells.now → ChartStands ring w m self.new.entries self.new.slots.cells.now }
+        ensures stands { (w : ℕ → ℕ → S) (m : Meaning) → ChartStands S.ring w m self.old.entries self.old.slots.cells.now → ChartStands S.ring w m self.new.entries self.new.slots.cells.now }
         ensures same { self.new.slots.cells.now ≡ self.old.slots.cells.now }
         ensures named { self.new.slots.cells.ghost_name ≡ self.old.slots.cells.ghost_name }
     {
@@ -42,7 +42,7 @@ impl<'a, S: Semiring> Chart<'a, S> {
     // Spends the token and clears the mark.
     pub fn keep(&mut self, trial: Trial) -> Result<(), Refusal>
         ensures did { (t : Terms) → Did t self.old.entries Call.Keep result self.new.entries }
-        ensures stands { (w : ℕ → ℕ → S) (m : Meaning) → ChartStands ring w m self.old.entries self.old.slots.cells.now → ChartStands ring w m self.new.entries self.new.slots.cells.now }
+        ensures stands { (w : ℕ → ℕ → S) (m : Meaning) → ChartStands S.ring w m self.old.entries self.old.slots.cells.now → ChartStands S.ring w m self.new.entries self.new.slots.cells.now }
         ensures same { self.new.slots.cells.now ≡ self.old.slots.cells.now }
         ensures named { self.new.slots.cells.ghost_name ≡ self.old.slots.cells.ghost_name }
     {
@@ -57,7 +57,7 @@ impl<'a, S: Semiring> Chart<'a, S> {
     // Spends the token, clears the mark and removes the last entry.
     pub fn withdraw(&mut self, trial: Trial) -> Result<(), Refusal>
         ensures did { (t : Terms) → Did t self.old.entries Call.Withdraw result self.new.entries }
-        ensures stands { (w : ℕ → ℕ → S) (m : Meaning) → ChartStands ring w m self.old.entries self.old.slots.cells.now → ChartStands ring w m self.new.entries self.new.slots.cells.now }
+        ensures stands { (w : ℕ → ℕ → S) (m : Meaning) → ChartStands S.ring w m self.old.entries self.old.slots.cells.now → ChartStands S.ring w m self.new.entries self.new.slots.cells.now }
         ensures same { self.new.slots.cells.now ≡ self.old.slots.cells.now }
         ensures named { self.new.slots.cells.ghost_name ≡ self.old.slots.cells.ghost_name }
     {

@@ -17,7 +17,7 @@ impl<'a, S: Semiring> Chart<'a, S> {
     // A chart for the grammar with no entries, whatever the slots hold.
     pub fn new<G: Grammar>(slots: &'a mut [S], grammar: &G) -> Chart<'a, S>
         ensures empty { state result.entries ≡ empty }
-        ensures own { result.entries.nonterminals ≡ (meaning grammar.now).nonterminals }
+        ensures own { result.entries.nonterminals ≡ (G.meaning grammar.now).nonterminals }
         ensures same { result.slots.cells.now ≡ slots.old }
         ensures named { result.slots.cells.ghost_name ≡ slots.entry.ghost_name }
     {
@@ -74,7 +74,7 @@ impl<'a, S: Semiring> Chart<'a, S> {
 
     // The value of the cell of a nonterminal and the span from `begin` to `end`, if that is in use.
     pub fn cell(&self, begin: usize, end: usize, nonterminal: u32) -> Option<S>
-        ensures { result ≡ cell_answer ring self.now.entries.nonterminals self.now.entries.count self.now.slots.cells.now begin end nonterminal }
+        ensures { result ≡ cell_answer S.ring self.now.entries.nonterminals self.now.entries.count self.now.slots.cells.now begin end nonterminal }
     {
         if begin < end && end <= self.entries.count && nonterminal < self.entries.nonterminals {
             Some(
@@ -92,8 +92,8 @@ impl<'a, S: Semiring> Chart<'a, S> {
 
     // The sum of the cells of all entries over the starts; without entries it is zero.
     pub fn total<G: Grammar>(&self, grammar: &G) -> Result<S, Refusal>
-        ensures is { result ≡ total_answer ring (meaning grammar.now) self.now.entries.nonterminals self.now.entries.count self.now.slots.cells.now }
-        ensures total { (w : ℕ → ℕ → S) → ChartStands ring w (meaning grammar.now) self.now.entries self.now.slots.cells.now → IfOk result (TotalOf ring (EntriesFromStarts (meaning grammar.now) (state self.now.entries).entries) (weight_of ring (by w) (meaning grammar.now))) }
+        ensures is { result ≡ total_answer S.ring (G.meaning grammar.now) self.now.entries.nonterminals self.now.entries.count self.now.slots.cells.now }
+        ensures total { (w : ℕ → ℕ → S) → ChartStands S.ring w (G.meaning grammar.now) self.now.entries self.now.slots.cells.now → IfOk result (TotalOf S.ring (EntriesFromStarts (G.meaning grammar.now) (state self.now.entries).entries) (weight_of S.ring (by w) (G.meaning grammar.now))) }
     {
         let n = self.entries.nonterminals;
         if grammar.nonterminals() != n {

@@ -42,9 +42,9 @@ impl<'a, S: Semiring> Chart<'a, S> {
         k: usize,
         bits: u32,
     ) -> Result<(), Refusal>
-        ensures did { Did (terms (meaning grammar.now) self.old.entries.nonterminals (length self.old.slots.cells.now)) self.old.entries (Call.Replace k bits) result self.new.entries }
-        ensures writes { MatchResult result (λ _. Refilled ring (by (weight weighing.now)) (meaning grammar.now) (state self.new.entries).entries k (self.new.entries.count + 1) self.old.slots.cells.now self.new.slots.cells.now) (λ _. self.new ≡ self.old) }
-        ensures stands { ChartStands ring (weight weighing.now) (meaning grammar.now) self.old.entries self.old.slots.cells.now → ChartStands ring (weight weighing.now) (meaning grammar.now) self.new.entries self.new.slots.cells.now }
+        ensures did { Did (terms (G.meaning grammar.now) self.old.entries.nonterminals (length self.old.slots.cells.now)) self.old.entries (Call.Replace k bits) result self.new.entries }
+        ensures writes { MatchResult result (λ _. Refilled S.ring (by (W.weight weighing.now)) (G.meaning grammar.now) (state self.new.entries).entries k (self.new.entries.count + 1) self.old.slots.cells.now self.new.slots.cells.now) (λ _. self.new ≡ self.old) }
+        ensures stands { ChartStands S.ring (W.weight weighing.now) (G.meaning grammar.now) self.old.entries self.old.slots.cells.now → ChartStands S.ring (W.weight weighing.now) (G.meaning grammar.now) self.new.entries self.new.slots.cells.now }
         ensures long { length self.new.slots.cells.now ≡ length self.old.slots.cells.now }
         ensures named { self.new.slots.cells.ghost_name ≡ self.old.slots.cells.ghost_name }
     {

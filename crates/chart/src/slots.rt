@@ -31,7 +31,7 @@ impl<'a, S: Semiring> Slots<'a, S> {
         requires room { cells.Room n end (length self.now.cells.now) }
         requires span { begin < end }
         requires named { a < n }
-        ensures { result ≡ cells.cell_at ring n self.now.cells.now begin end a }
+        ensures { result ≡ cells.cell_at S.ring n self.now.cells.now begin end a }
     {
         cell(&*self.cells, n, begin, end, a)
     }
@@ -44,9 +44,9 @@ impl<'a, S: Semiring> Slots<'a, S> {
         end: usize,
         last: Entry,
     )
-        requires room { cells.Room (meaning grammar.now).nonterminals end (length self.old.cells.now) }
+        requires room { cells.Room (G.meaning grammar.now).nonterminals end (length self.old.cells.now) }
         requires some { 0 < end }
-        ensures filled { columns.Column ring (by (weight weighing.now)) (meaning grammar.now) last.bits 0 end end self.old.cells.now self.new.cells.now }
+        ensures filled { columns.Column S.ring (by (W.weight weighing.now)) (G.meaning grammar.now) last.bits 0 end end self.old.cells.now self.new.cells.now }
         ensures long { length self.new.cells.now ≡ length self.old.cells.now }
         ensures named { self.new.cells.ghost_name ≡ self.old.cells.ghost_name }
     {
@@ -61,9 +61,9 @@ impl<'a, S: Semiring> Slots<'a, S> {
         entries: &Entries,
         k: usize,
     )
-        requires room { cells.Room (meaning grammar.now).nonterminals entries.now.count (length self.old.cells.now) }
+        requires room { cells.Room (G.meaning grammar.now).nonterminals entries.now.count (length self.old.cells.now) }
         requires entry { k < entries.now.count }
-        ensures filled { columns.Refilled ring (by (weight weighing.now)) (meaning grammar.now) (state entries.now).entries k (entries.now.count + 1) self.old.cells.now self.new.cells.now }
+        ensures filled { columns.Refilled S.ring (by (W.weight weighing.now)) (G.meaning grammar.now) (state entries.now).entries k (entries.now.count + 1) self.old.cells.now self.new.cells.now }
         ensures long { length self.new.cells.now ≡ length self.old.cells.now }
         ensures named { self.new.cells.ghost_name ≡ self.old.cells.ghost_name }
     {

@@ -21,10 +21,10 @@ impl<'a, S: Semiring> Chart<'a, S> {
         weighing: &W,
         bits: u32,
     ) -> Result<Trial, Refusal>
-        ensures did { Did (terms (meaning grammar.now) self.old.entries.nonterminals (length self.old.slots.cells.now)) self.old.entries (Call.Try bits) (plain result) self.new.entries }
+        ensures did { Did (terms (G.meaning grammar.now) self.old.entries.nonterminals (length self.old.slots.cells.now)) self.old.entries (Call.Try bits) (plain result) self.new.entries }
         ensures unspent { IfOk result (λ t. t.spent ≡ false) }
-        ensures writes { MatchResult result (λ _. Column ring (by (weight weighing.now)) (meaning grammar.now) bits 0 (self.old.entries.count + 1) (self.old.entries.count + 1) self.old.slots.cells.now self.new.slots.cells.now) (λ _. self.new ≡ self.old) }
-        ensures stands { ChartStands ring (weight weighing.now) (meaning grammar.now) self.old.entries self.old.slots.cells.now → ChartStands ring (weight weighing.now) (meaning grammar.now) self.new.entries self.new.slots.cells.now }
+        ensures writes { MatchResult result (λ _. Column S.ring (by (W.weight weighing.now)) (G.meaning grammar.now) bits 0 (self.old.entries.count + 1) (self.old.entries.count + 1) self.old.slots.cells.now self.new.slots.cells.now) (λ _. self.new ≡ self.old) }
+        ensures stands { ChartStands S.ring (W.weight weighing.now) (G.meaning grammar.now) self.old.entries self.old.slots.cells.now → ChartStands S.ring (W.weight weighing.now) (G.meaning grammar.now) self.new.entries self.new.slots.cells.now }
         ensures long { length self.new.slots.cells.now ≡ length self.old.slots.cells.now }
         ensures named { self.new.slots.cells.ghost_name ≡ self.old.slots.cells.ghost_name }
     {

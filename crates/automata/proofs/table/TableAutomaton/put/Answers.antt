@@ -5,7 +5,14 @@ use Rattle.automata.proofs.table.TableAutomaton.put.Goals as goal
 pub invariant_of-self : goal.invariant_of-self
 invariant_of-self c =
     let s = c.args.self.now in
-    (s.some, (s.few, (s.readable, (s.coded, (s.begins, ((λ i h. below_set s.next _ _ s.states i (omega arith) (s.within i h)), tt))))))
+    record {
+      some = s.some;
+      few = s.few;
+      readable = s.readable;
+      coded = s.coded;
+      begins = s.begins;
+      within = λ i h. below_set s.next _ _ s.states i (omega arith) (s.within i h);
+    }
 
 pub returns : goal.returns
 returns c =

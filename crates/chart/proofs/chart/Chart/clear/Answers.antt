@@ -6,4 +6,4 @@ pub invariant_of-self-3 : goal.invariant_of-self-3
 invariant_of-self-3 g c =
     let t = c.args.self.now in
     let e = t.entries in
-    (fewer_room e.nonterminals 0 e.count (length t.slots.cells.now) (omega arith) e.few e.narrow t.room, tt)
+    record { room = fewer_room e.nonterminals 0 e.count (length t.slots.cells.now) (omega arith) e.few e.narrow t.room }

@@ -22,11 +22,11 @@ pub(crate) fn run_calls<'a, S: Semiring, G: Grammar, W: Weighing<Value = S>>(
     held: Option<Trial>,
 ) -> Option<Trial>
     requires { is_some held ≡ chart.old.entries.trial }
-    ensures after { state chart.new.entries ≡ run (terms (meaning grammar.now) chart.old.entries.nonterminals (length chart.old.slots.cells.now)) (state chart.old.entries) calls.now }
-    ensures answered { (k : ℕ) → k < length calls.now → k < length answers.old → slice_index_or answers.new k (Ok tt) ≡ slice_index_or (allAnswers (terms (meaning grammar.now) chart.old.entries.nonterminals (length chart.old.slots.cells.now)) (state chart.old.entries) calls.now) k (Ok tt) }
+    ensures after { state chart.new.entries ≡ run (terms (G.meaning grammar.now) chart.old.entries.nonterminals (length chart.old.slots.cells.now)) (state chart.old.entries) calls.now }
+    ensures answered { (k : ℕ) → k < length calls.now → k < length answers.old → slice_index_or answers.new k (Ok tt) ≡ slice_index_or (allAnswers (terms (G.meaning grammar.now) chart.old.entries.nonterminals (length chart.old.slots.cells.now)) (state chart.old.entries) calls.now) k (Ok tt) }
     ensures beyond { (k : ℕ) → length calls.now ≤ k → slice_index_or answers.new k (Ok tt) ≡ slice_index_or answers.old k (Ok tt) }
     ensures held { is_some result ≡ chart.new.entries.trial }
-    ensures stands { ChartStands ring (weight weighing.now) (meaning grammar.now) chart.old.entries chart.old.slots.cells.now → ChartStands ring (weight weighing.now) (meaning grammar.now) chart.new.entries chart.new.slots.cells.now }
+    ensures stands { ChartStands S.ring (W.weight weighing.now) (G.meaning grammar.now) chart.old.entries chart.old.slots.cells.now → ChartStands S.ring (W.weight weighing.now) (G.meaning grammar.now) chart.new.entries chart.new.slots.cells.now }
     ensures own { chart.new.entries.nonterminals ≡ chart.old.entries.nonterminals }
     ensures long { length chart.new.slots.cells.now ≡ length chart.old.slots.cells.now }
     ensures named { chart.new.slots.cells.ghost_name ≡ chart.old.slots.cells.ghost_name }

@@ -32,9 +32,9 @@ pub(crate) fn perform<'a, S: Semiring, G: Grammar, W: Weighing<Value = S>>(
     held: Option<Trial>,
 ) -> (Result<(), Refusal>, Option<Trial>)
     requires { is_some held ≡ chart.old.entries.trial }
-    ensures did { Did (terms (meaning grammar.now) chart.old.entries.nonterminals (length chart.old.slots.cells.now)) chart.old.entries call result.0 chart.new.entries }
+    ensures did { Did (terms (G.meaning grammar.now) chart.old.entries.nonterminals (length chart.old.slots.cells.now)) chart.old.entries call result.0 chart.new.entries }
     ensures held { is_some result.1 ≡ chart.new.entries.trial }
-    ensures stands { ChartStands ring (weight weighing.now) (meaning grammar.now) chart.old.entries chart.old.slots.cells.now → ChartStands ring (weight weighing.now) (meaning grammar.now) chart.new.entries chart.new.slots.cells.now }
+    ensures stands { ChartStands S.ring (W.weight weighing.now) (G.meaning grammar.now) chart.old.entries chart.old.slots.cells.now → ChartStands S.ring (W.weight weighing.now) (G.meaning grammar.now) chart.new.entries chart.new.slots.cells.now }
     ensures long { length chart.new.slots.cells.now ≡ length chart.old.slots.cells.now }
     ensures named { chart.new.slots.cells.ghost_name ≡ chart.old.slots.cells.ghost_name }
 {

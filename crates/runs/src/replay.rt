@@ -28,7 +28,7 @@ fn replay_tree<G: Grammar>(
     calls: &[Call],
     records: &mut [Record],
 ) -> Result<usize, Refusal>
-    ensures { TreeAfter (meaning grammar.now) (run (terms (meaning grammar.now) (meaning grammar.now).nonterminals (length slots.old)) empty calls.now).entries records.old records.new result }
+    ensures { TreeAfter (G.meaning grammar.now) (run (terms (G.meaning grammar.now) (G.meaning grammar.now).nonterminals (length slots.old)) empty calls.now).entries records.old records.new result }
 {
     let mut chart = Chart::new(slots, grammar);
     let trial = run_calls(&mut chart, grammar, &CostWeighing {}, calls, &mut [], None);
@@ -54,16 +54,16 @@ pub fn replay<'a, S: Semiring, G: Grammar, W: Weighing<Value = S>>(
     answers: &mut [Result<(), Refusal>],
     records: &mut [Record],
 ) -> Replayed<S>
-    ensures after { state chart.new.entries ≡ run (terms (meaning grammar.now) chart.old.entries.nonterminals (length chart.old.slots.cells.now)) empty calls.now }
-    ensures answered { (k : ℕ) → k < length calls.now → k < length answers.old → slice_index_or answers.new k (Ok tt) ≡ slice_index_or (allAnswers (terms (meaning grammar.now) chart.old.entries.nonterminals (length chart.old.slots.cells.now)) empty calls.now) k (Ok tt) }
+    ensures after { state chart.new.entries ≡ run (terms (G.meaning grammar.now) chart.old.entries.nonterminals (length chart.old.slots.cells.now)) empty calls.now }
+    ensures answered { (k : ℕ) → k < length calls.now → k < length answers.old → slice_index_or answers.new k (Ok tt) ≡ slice_index_or (allAnswers (terms (G.meaning grammar.now) chart.old.entries.nonterminals (length chart.old.slots.cells.now)) empty calls.now) k (Ok tt) }
     ensures beyond { (k : ℕ) → length calls.now ≤ k → slice_index_or answers.new k (Ok tt) ≡ slice_index_or answers.old k (Ok tt) }
     ensures held { is_some result.trial ≡ chart.new.entries.trial }
-    ensures stands { ChartStands ring (weight weighing.now) (meaning grammar.now) chart.new.entries chart.new.slots.cells.now }
-    ensures answer { result.total ≡ total_answer ring (meaning grammar.now) chart.new.entries.nonterminals chart.new.entries.count chart.new.slots.cells.now }
-    ensures total { IfOk result.total (TotalOf ring (EntriesFromStarts (meaning grammar.now) (state chart.new.entries).entries) (weight_of ring (by (weight weighing.now)) (meaning grammar.now))) }
+    ensures stands { ChartStands S.ring (W.weight weighing.now) (G.meaning grammar.now) chart.new.entries chart.new.slots.cells.now }
+    ensures answer { result.total ≡ total_answer S.ring (G.meaning grammar.now) chart.new.entries.nonterminals chart.new.entries.count chart.new.slots.cells.now }
+    ensures total { IfOk result.total (TotalOf S.ring (EntriesFromStarts (G.meaning grammar.now) (state chart.new.entries).entries) (weight_of S.ring (by (W.weight weighing.now)) (G.meaning grammar.now))) }
     ensures matches { OneForOneAll }
-    ensures weighs { SameWeightAll ring }
-    ensures tree { TreeAfter (meaning grammar.now) (run (terms (meaning grammar.now) (meaning grammar.now).nonterminals (length costs.old)) empty calls.now).entries records.old records.new result.tree }
+    ensures weighs { SameWeightAll S.ring }
+    ensures tree { TreeAfter (G.meaning grammar.now) (run (terms (G.meaning grammar.now) (G.meaning grammar.now).nonterminals (length costs.old)) empty calls.now).entries records.old records.new result.tree }
     ensures own { chart.new.entries.nonterminals ≡ chart.old.entries.nonterminals }
     ensures long { length chart.new.slots.cells.now ≡ length chart.old.slots.cells.now }
     ensures named { chart.new.slots.cells.ghost_name ≡ chart.old.slots.cells.ghost_name }

@@ -32,11 +32,11 @@ pub fn tree<G: Grammar, W: Weighing<Value = Cost>>(
     weighing: &W,
     records: &mut [Record],
 ) -> Result<usize, Refusal>
-    ensures answer { result ≡ chart_answer (meaning grammar.now) chart.now.entries chart.now.slots.cells.now (length records.old) }
+    ensures answer { result ≡ chart_answer (G.meaning grammar.now) chart.now.entries chart.now.slots.cells.now (length records.old) }
     ensures beyond { MatchResult result (λ k. drop k records.new ≡ drop k records.old) (λ _. records.new ≡ records.old) }
-    ensures cheapest { ChartStands cost (weight weighing.now) (meaning grammar.now) chart.now.entries chart.now.slots.cells.now → IfOk result (λ k. ChartCheapest (weight weighing.now) (meaning grammar.now) chart.now.entries chart.now.slots.cells.now (take k records.new)) }
-    ensures none { TellsNone (weight weighing.now) (meaning grammar.now) chart.now.entries chart.now.slots.cells.now result }
-    ensures every { ChartStands cost (weight weighing.now) (meaning grammar.now) chart.now.entries chart.now.slots.cells.now → ChartEvery (weight weighing.now) (meaning grammar.now) chart.now.entries chart.now.slots.cells.now }
+    ensures cheapest { ChartStands cost (W.weight weighing.now) (G.meaning grammar.now) chart.now.entries chart.now.slots.cells.now → IfOk result (λ k. ChartCheapest (W.weight weighing.now) (G.meaning grammar.now) chart.now.entries chart.now.slots.cells.now (take k records.new)) }
+    ensures none { TellsNone (W.weight weighing.now) (G.meaning grammar.now) chart.now.entries chart.now.slots.cells.now result }
+    ensures every { ChartStands cost (W.weight weighing.now) (G.meaning grammar.now) chart.now.entries chart.now.slots.cells.now → ChartEvery (W.weight weighing.now) (G.meaning grammar.now) chart.now.entries chart.now.slots.cells.now }
 {
     let total = chart.total(grammar)?;
     let count = chart.len();

@@ -121,11 +121,11 @@ fn rival_of<G: Grammar, W: Costing>(
     node: Node,
     number: u32,
 ) -> Option<Choice>
-    requires same { (meaning grammar.now).nonterminals ≡ chart.now.entries.nonterminals }
+    requires same { (G.meaning grammar.now).nonterminals ≡ chart.now.entries.nonterminals }
     requires span { node.begin < node.end }
     requires within { node.end ≤ chart.now.entries.count }
     requires named { node.nonterminal < chart.now.entries.nonterminals }
-    ensures { PickedAt (Rival (by (costs weighing.now)) (meaning grammar.now) (state chart.now.entries).entries (cell_at cost chart.now.entries.nonterminals chart.now.slots.cells.now) node.begin node.end node.nonterminal) (meaning grammar.now) number result }
+    ensures { PickedAt (Rival (by (W.costs weighing.now)) (G.meaning grammar.now) (state chart.now.entries).entries (cell_at cost chart.now.entries.nonterminals chart.now.slots.cells.now) node.begin node.end node.nonterminal) (G.meaning grammar.now) number result }
 {
     let rule = grammar.rule(number)?;
     if rule.lhs != node.nonterminal {
@@ -152,11 +152,11 @@ fn has_rival<G: Grammar, W: Costing>(
     node: Node,
     number: u32,
 ) -> bool
-    requires same { (meaning grammar.now).nonterminals ≡ chart.now.entries.nonterminals }
+    requires same { (G.meaning grammar.now).nonterminals ≡ chart.now.entries.nonterminals }
     requires span { node.begin < node.end }
     requires within { node.end ≤ chart.now.entries.count }
     requires named { node.nonterminal < chart.now.entries.nonterminals }
-    ensures { Says result (HasRival (by (costs weighing.now)) (meaning grammar.now) (state chart.now.entries).entries (cell_at cost chart.now.entries.nonterminals chart.now.slots.cells.now) node.begin node.end node.nonterminal number) }
+    ensures { Says result (HasRival (by (W.costs weighing.now)) (G.meaning grammar.now) (state chart.now.entries).entries (cell_at cost chart.now.entries.nonterminals chart.now.slots.cells.now) node.begin node.end node.nonterminal number) }
 {
     match rival_of(chart, grammar, weighing, node, number) {
         Some(_) => true,
@@ -171,11 +171,11 @@ fn first_rule<G: Grammar, W: Costing>(
     weighing: &W,
     node: Node,
 ) -> Option<u32>
-    requires same { (meaning grammar.now).nonterminals ≡ chart.now.entries.nonterminals }
+    requires same { (G.meaning grammar.now).nonterminals ≡ chart.now.entries.nonterminals }
     requires span { node.begin < node.end }
     requires within { node.end ≤ chart.now.entries.count }
     requires named { node.nonterminal < chart.now.entries.nonterminals }
-    ensures { FirstBelow (meaning grammar.now).bound (HasRival (by (costs weighing.now)) (meaning grammar.now) (state chart.now.entries).entries (cell_at cost chart.now.entries.nonterminals chart.now.slots.cells.now) node.begin node.end node.nonterminal) result }
+    ensures { FirstBelow (G.meaning grammar.now).bound (HasRival (by (W.costs weighing.now)) (G.meaning grammar.now) (state chart.now.entries).entries (cell_at cost chart.now.entries.nonterminals chart.now.slots.cells.now) node.begin node.end node.nonterminal) result }
 {
     for number in 0..grammar.bound() {
         if has_rival(chart, grammar, weighing, node, number) {
@@ -192,11 +192,11 @@ pub(crate) fn first_rival<G: Grammar, W: Costing>(
     weighing: &W,
     node: Node,
 ) -> Option<Choice>
-    requires same { (meaning grammar.now).nonterminals ≡ chart.now.entries.nonterminals }
+    requires same { (G.meaning grammar.now).nonterminals ≡ chart.now.entries.nonterminals }
     requires span { node.begin < node.end }
     requires within { node.end ≤ chart.now.entries.count }
     requires named { node.nonterminal < chart.now.entries.nonterminals }
-    ensures { PickedOf (Rival (by (costs weighing.now)) (meaning grammar.now) (state chart.now.entries).entries (cell_at cost chart.now.entries.nonterminals chart.now.slots.cells.now) node.begin node.end node.nonterminal) (meaning grammar.now) result }
+    ensures { PickedOf (Rival (by (W.costs weighing.now)) (G.meaning grammar.now) (state chart.now.entries).entries (cell_at cost chart.now.entries.nonterminals chart.now.slots.cells.now) node.begin node.end node.nonterminal) (G.meaning grammar.now) result }
 {
     match first_rule(chart, grammar, weighing, node) {
         Some(number) => rival_of(chart, grammar, weighing, node, number),

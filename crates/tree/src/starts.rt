@@ -36,8 +36,8 @@ pub(crate) fn first_start<G: Grammar>(
 ) -> Option<u32>
     requires some { 0 < end }
     requires within { end ≤ chart.now.entries.count }
-    requires same { (meaning grammar.now).nonterminals ≡ chart.now.entries.nonterminals }
-    ensures { FirstOf (StartAttains (meaning grammar.now) (meaning grammar.now).nonterminals (cell_at cost chart.now.entries.nonterminals chart.now.slots.cells.now 0 end) value) result }
+    requires same { (G.meaning grammar.now).nonterminals ≡ chart.now.entries.nonterminals }
+    ensures { FirstOf (StartAttains (G.meaning grammar.now) (G.meaning grammar.now).nonterminals (cell_at cost chart.now.entries.nonterminals chart.now.slots.cells.now 0 end) value) result }
 {
     for a in 0..grammar.nonterminals() {
         if grammar.is_start(a) && cell(chart, 0, end, a).value == value {

@@ -22,11 +22,11 @@ fn choose<G: Grammar, W: Costing>(
     weighing: &W,
     node: Node,
 ) -> Choice
-    requires same { (meaning grammar.now).nonterminals ≡ chart.now.entries.nonterminals }
+    requires same { (G.meaning grammar.now).nonterminals ≡ chart.now.entries.nonterminals }
     requires span { node.begin < node.end }
     requires within { node.end ≤ chart.now.entries.count }
     requires named { node.nonterminal < chart.now.entries.nonterminals }
-    ensures { Chose (Rival (by (costs weighing.now)) (meaning grammar.now) (state chart.now.entries).entries (cell_at cost chart.now.entries.nonterminals chart.now.slots.cells.now) node.begin node.end node.nonterminal) (meaning grammar.now) node.begin node.end result }
+    ensures { Chose (Rival (by (W.costs weighing.now)) (G.meaning grammar.now) (state chart.now.entries).entries (cell_at cost chart.now.entries.nonterminals chart.now.slots.cells.now) node.begin node.end node.nonterminal) (G.meaning grammar.now) node.begin node.end result }
 {
     match first_rival(chart, grammar, weighing, node) {
         Some(choice) => choice,
@@ -49,12 +49,12 @@ pub(crate) fn write_tree<G: Grammar, W: Costing>(
     records: &mut [Record],
     at: usize,
 ) -> usize
-    requires same { (meaning grammar.now).nonterminals ≡ chart.now.entries.nonterminals }
+    requires same { (G.meaning grammar.now).nonterminals ≡ chart.now.entries.nonterminals }
     requires span { node.begin < node.end }
     requires within { node.end ≤ chart.now.entries.count }
     requires named { node.nonterminal < chart.now.entries.nonterminals }
     requires fits { at + (2 * (node.end - node.begin) - 1) ≤ length records.old }
-    ensures { Wrote (by (costs weighing.now)) (meaning grammar.now) (state chart.now.entries).entries (cell_at cost chart.now.entries.nonterminals chart.now.slots.cells.now) records.old at node.begin node.end node.nonterminal result records.new }
+    ensures { Wrote (by (W.costs weighing.now)) (G.meaning grammar.now) (state chart.now.entries).entries (cell_at cost chart.now.entries.nonterminals chart.now.slots.cells.now) records.old at node.begin node.end node.nonterminal result records.new }
 {
     let choice = choose(chart, grammar, weighing, node);
     node.write(choice, records, at);

@@ -20,10 +20,10 @@ pub struct Intersection<G, M> {
 impl<G: Grammar, M: Automaton> Intersection<G, M> {
     // Lays an intersection; one that would be too large, or whose automaton has too few codes, is blank.
     pub fn lay(below: G, automaton: M) -> (Intersection<G, M>, Option<Refusal>)
-        ensures refusal { result.1 ≡ intersection_refused (machine automaton) (meaning below) }
-        ensures means { intersection_meaning meaning machine result.0 ≡ intersection (machine automaton) (meaning below) }
-        ensures matches { result.1 ≡ None → IntersectionMatches OneForOne (machine automaton) (meaning below) (intersection_meaning meaning machine result.0) }
-        ensures passes { result.1 ≡ None → PassesThrough (intersection_meaning meaning machine result.0) (meaning below) (λ n. n / cube (machine automaton).states) }
+        ensures refusal { result.1 ≡ intersection_refused (M.machine automaton) (G.meaning below) }
+        ensures means { intersection_meaning G.meaning M.machine result.0 ≡ intersection (M.machine automaton) (G.meaning below) }
+        ensures matches { result.1 ≡ None → IntersectionMatches OneForOne (M.machine automaton) (G.meaning below) (intersection_meaning G.meaning M.machine result.0) }
+        ensures passes { result.1 ≡ None → PassesThrough (intersection_meaning G.meaning M.machine result.0) (G.meaning below) (λ n. n / cube (M.machine automaton).states) }
     {
         let layer = Intersection { below, automaton };
         let why = layer.refused();
@@ -32,16 +32,16 @@ impl<G: Grammar, M: Automaton> Intersection<G, M> {
 
     // The layer itself and its refusal; the contract is the theorem about it.
     fn matched(self, why: Option<Refusal>) -> (Intersection<G, M>, Option<Refusal>)
-        requires { why ≡ intersection_refused (machine self.automaton) (meaning self.below) }
+        requires { why ≡ intersection_refused (M.machine self.automaton) (G.meaning self.below) }
         ensures same { result ≡ (self, why) }
-        ensures matches { why ≡ None → IntersectionMatches OneForOne (machine self.automaton) (meaning self.below) (intersection_meaning meaning machine self) }
-        ensures passes { why ≡ None → PassesThrough (intersection_meaning meaning machine self) (meaning self.below) (λ n. n / cube (machine self.automaton).states) }
+        ensures matches { why ≡ None → IntersectionMatches OneForOne (M.machine self.automaton) (G.meaning self.below) (intersection_meaning G.meaning M.machine self) }
+        ensures passes { why ≡ None → PassesThrough (intersection_meaning G.meaning M.machine self) (G.meaning self.below) (λ n. n / cube (M.machine self.automaton).states) }
     {
         (self, why)
     }
 
     fn refused(&self) -> Option<Refusal>
-        ensures { result ≡ intersection_refused (machine self.now.automaton) (meaning self.now.below) }
+        ensures { result ≡ intersection_refused (M.machine self.now.automaton) (G.meaning self.now.below) }
     {
         if self.automaton.codes() < self.below.codes() {
             return Some(Refusal::FewerCodes);
@@ -67,10 +67,10 @@ fn crossed(states: u32, a: u32, p: u32, r: u32) -> u32
 
 // A rule below with the states p, q and r.
 fn cross<M: Automaton>(automaton: &M, p: u32, q: u32, r: u32, rule: Rule) -> Option<Rule>
-    requires few { (machine automaton.now).states ≤ 8 }
+    requires few { (M.machine automaton.now).states ≤ 8 }
     requires states { (p < 8) × ((q < 8) × (r < 8)) }
     requires small { (rule.lhs < 4096) × (Small rule.expansion) }
-    ensures { result ≡ crossed_any (machine automaton.now) p q r (Some rule) }
+    ensures { result ≡ crossed_any (M.machine automaton.now) p q r (Some rule) }
 {
     let states = automaton.states();
     let lhs = crossed(states, rule.lhs, p, r);
@@ -98,7 +98,7 @@ fn cross<M: Automaton>(automaton: &M, p: u32, q: u32, r: u32, rule: Rule) -> Opt
 
 // Whether a step from p on the code leads to r.
 fn leads<M: Automaton>(automaton: &M, p: u32, code: u8, r: u32) -> bool
-    ensures { result ≡ is ((machine automaton.now).step p code) r }
+    ensures { result ≡ is ((M.machine automaton.now).step p code) r }
 {
     match automaton.step(p, code) {
         Some(to) => to == r,

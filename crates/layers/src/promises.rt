@@ -14,10 +14,10 @@ pub fn leaf_weight<S: Semiring, W: Weighing<Value = S>, G: Grammar>(
     weighing: &W,
     number: u32,
 ) -> S
-    ensures is { result ≡ weight_of ring (by (weight weighing.now)) (meaning grammar.now) (leaf number) }
+    ensures is { result ≡ weight_of S.ring (by (W.weight weighing.now)) (G.meaning grammar.now) (leaf number) }
     ensures matches { OneForOneAll }
     ensures passes { PassesThroughAll }
-    ensures weighs { SameWeightAll ring }
+    ensures weighs { SameWeightAll S.ring }
 {
     match grammar.rule(number) {
         Some(rule) => matched(weighing.weigh(&rule)),
@@ -30,7 +30,7 @@ fn matched<S: Semiring>(weight: S) -> S
     ensures same { result ≡ weight }
     ensures matches { OneForOneAll }
     ensures passes { PassesThroughAll }
-    ensures weighs { SameWeightAll ring }
+    ensures weighs { SameWeightAll S.ring }
 {
     weight
 }

@@ -21,10 +21,10 @@ pub struct Renaming<G> {
 impl<G: Grammar> Renaming<G> {
     // Lays a renaming; one that would be too large is blank.
     pub fn lay(below: G, readings: Readings) -> (Renaming<G>, Option<Refusal>)
-        ensures refusal { result.1 ≡ renaming_refused (recorder readings) (meaning below) }
-        ensures means { renaming_meaning meaning result.0 ≡ renaming (recorder readings) (meaning below) }
-        ensures matches { result.1 ≡ None → RenamingMatches OneForOne (recorder readings) (meaning below) (renaming_meaning meaning result.0) }
-        ensures passes { result.1 ≡ None → PassesThrough (renaming_meaning meaning result.0) (meaning below) (λ n. n / (recorder readings).count) }
+        ensures refusal { result.1 ≡ renaming_refused (recorder readings) (G.meaning below) }
+        ensures means { renaming_meaning G.meaning result.0 ≡ renaming (recorder readings) (G.meaning below) }
+        ensures matches { result.1 ≡ None → RenamingMatches OneForOne (recorder readings) (G.meaning below) (renaming_meaning G.meaning result.0) }
+        ensures passes { result.1 ≡ None → PassesThrough (renaming_meaning G.meaning result.0) (G.meaning below) (λ n. n / (recorder readings).count) }
     {
         let layer = Renaming { below, readings };
         let why = layer.refused();
@@ -33,16 +33,16 @@ impl<G: Grammar> Renaming<G> {
 
     // The layer itself and its refusal; the contract is the theorem about it.
     fn matched(self, why: Option<Refusal>) -> (Renaming<G>, Option<Refusal>)
-        requires { why ≡ renaming_refused (recorder self.readings) (meaning self.below) }
+        requires { why ≡ renaming_refused (recorder self.readings) (G.meaning self.below) }
         ensures same { result ≡ (self, why) }
-        ensures matches { why ≡ None → RenamingMatches OneForOne (recorder self.readings) (meaning self.below) (renaming_meaning meaning self) }
-        ensures passes { why ≡ None → PassesThrough (renaming_meaning meaning self) (meaning self.below) (λ n. n / (recorder self.readings).count) }
+        ensures matches { why ≡ None → RenamingMatches OneForOne (recorder self.readings) (G.meaning self.below) (renaming_meaning G.meaning self) }
+        ensures passes { why ≡ None → PassesThrough (renaming_meaning G.meaning self) (G.meaning self.below) (λ n. n / (recorder self.readings).count) }
     {
         (self, why)
     }
 
     fn refused(&self) -> Option<Refusal>
-        ensures { result ≡ renaming_refused (recorder self.now.readings) (meaning self.now.below) }
+        ensures { result ≡ renaming_refused (recorder self.now.readings) (G.meaning self.now.below) }
     {
         if self.below.bound() as u64 * self.readings.count() as u64 <= 16777216 {
             None

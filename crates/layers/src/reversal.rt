@@ -17,9 +17,9 @@ pub struct Reversal<G> {
 impl<G: Grammar> Reversal<G> {
     // Lays a reversal; it is always accepted.
     pub fn lay(below: G) -> Reversal<G>
-        ensures means { reversal_meaning meaning result ≡ reversal (meaning below) }
-        ensures matches { ReversalMatches OneForOne (meaning below) (reversal_meaning meaning result) }
-        ensures passes { PassesThrough (reversal_meaning meaning result) (meaning below) (λ n. n) }
+        ensures means { reversal_meaning G.meaning result ≡ reversal (G.meaning below) }
+        ensures matches { ReversalMatches OneForOne (G.meaning below) (reversal_meaning G.meaning result) }
+        ensures passes { PassesThrough (reversal_meaning G.meaning result) (G.meaning below) (λ n. n) }
     {
         Reversal { below }.matched()
     }
@@ -27,8 +27,8 @@ impl<G: Grammar> Reversal<G> {
     // The layer itself; the contract is the theorem about it.
     fn matched(self) -> Reversal<G>
         ensures same { result ≡ self }
-        ensures matches { ReversalMatches OneForOne (meaning self.below) (reversal_meaning meaning self) }
-        ensures passes { PassesThrough (reversal_meaning meaning self) (meaning self.below) (λ n. n) }
+        ensures matches { ReversalMatches OneForOne (G.meaning self.below) (reversal_meaning G.meaning self) }
+        ensures passes { PassesThrough (reversal_meaning G.meaning self) (G.meaning self.below) (λ n. n) }
     {
         self
     }

@@ -1,7 +1,7 @@
 // All calls of a list, one after another.
 ghost use Rattle.std.specs.Prelude.{◌≡◌, ℕ, ◌<◌, ◌≤◌, length, is_some, Ok, slice_index_or};
 ghost use Rattle.chart.specs.Model.{terms, state, ChartStands};
-ghost use Rattle.runs.specs.Runs.{run, answers as allAnswers};
+ghost use Rattle.runs.specs.Runs.{run, answers as all_answers};
 
 use crate::perform::perform;
 use chart::call::Call;
@@ -23,7 +23,7 @@ pub(crate) fn run_calls<'a, S: Semiring, G: Grammar, W: Weighing<Value = S>>(
 ) -> Option<Trial>
     requires { is_some held ≡ chart.old.entries.trial }
     ensures after { state chart.new.entries ≡ run (terms (G.meaning grammar.now) chart.old.entries.nonterminals (length chart.old.slots.cells.now)) (state chart.old.entries) calls.now }
-    ensures answered { (k : ℕ) → k < length calls.now → k < length answers.old → slice_index_or answers.new k (Ok tt) ≡ slice_index_or (allAnswers (terms (G.meaning grammar.now) chart.old.entries.nonterminals (length chart.old.slots.cells.now)) (state chart.old.entries) calls.now) k (Ok tt) }
+    ensures answered { (k : ℕ) → k < length calls.now → k < length answers.old → slice_index_or answers.new k (Ok tt) ≡ slice_index_or (all_answers (terms (G.meaning grammar.now) chart.old.entries.nonterminals (length chart.old.slots.cells.now)) (state chart.old.entries) calls.now) k (Ok tt) }
     ensures beyond { (k : ℕ) → length calls.now ≤ k → slice_index_or answers.new k (Ok tt) ≡ slice_index_or answers.old k (Ok tt) }
     ensures held { is_some result ≡ chart.new.entries.trial }
     ensures stands { ChartStands S.ring (W.weight weighing.now) (G.meaning grammar.now) chart.old.entries chart.old.slots.cells.now → ChartStands S.ring (W.weight weighing.now) (G.meaning grammar.now) chart.new.entries chart.new.slots.cells.now }

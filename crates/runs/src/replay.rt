@@ -5,7 +5,7 @@ ghost use Rattle.grammar.specs.Totals.{TotalOf, weight_of, by};
 ghost use Rattle.layers.specs.Promises.{OneForOneAll, SameWeightAll};
 ghost use Rattle.chart.specs.Model.{terms, state, empty, ChartStands};
 ghost use Rattle.chart.specs.Reads.{total_answer};
-ghost use Rattle.runs.specs.Runs.{run, answers as allAnswers};
+ghost use Rattle.runs.specs.Runs.{run, answers as all_answers};
 ghost use Rattle.runs.specs.Trees.{TreeAfter};
 
 use crate::calls::run_calls;
@@ -55,7 +55,7 @@ pub fn replay<'a, S: Semiring, G: Grammar, W: Weighing<Value = S>>(
     records: &mut [Record],
 ) -> Replayed<S>
     ensures after { state chart.new.entries ≡ run (terms (G.meaning grammar.now) chart.old.entries.nonterminals (length chart.old.slots.cells.now)) empty calls.now }
-    ensures answered { (k : ℕ) → k < length calls.now → k < length answers.old → slice_index_or answers.new k (Ok tt) ≡ slice_index_or (allAnswers (terms (G.meaning grammar.now) chart.old.entries.nonterminals (length chart.old.slots.cells.now)) empty calls.now) k (Ok tt) }
+    ensures answered { (k : ℕ) → k < length calls.now → k < length answers.old → slice_index_or answers.new k (Ok tt) ≡ slice_index_or (all_answers (terms (G.meaning grammar.now) chart.old.entries.nonterminals (length chart.old.slots.cells.now)) empty calls.now) k (Ok tt) }
     ensures beyond { (k : ℕ) → length calls.now ≤ k → slice_index_or answers.new k (Ok tt) ≡ slice_index_or answers.old k (Ok tt) }
     ensures held { is_some result.trial ≡ chart.new.entries.trial }
     ensures stands { ChartStands S.ring (W.weight weighing.now) (G.meaning grammar.now) chart.new.entries chart.new.slots.cells.now }

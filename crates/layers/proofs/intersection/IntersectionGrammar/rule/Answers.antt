@@ -13,5 +13,5 @@ cross-requires g c =
     let hs : n / q % q < q = mod-lt (n / q) pos in
     let hr : n % q < q = mod-lt n pos in
     let few = wk.few in
-    let r = small_rule _ (g.G.Grammar.shown c.args.self.now.below) (n / q / q / q) c.in_ok-rule.rule c.in_ok-rule.ensures in
+    let r = small_rule _ (g.G.Grammar.shown c.args.self.now.below) (n / q / q / q) c.in_ok-rule-in-None.rule c.in_ok-rule-in-None.ensures in
     record { few = omega arith; states = (omega arith, (omega arith, omega arith)); small = (r.0, r.1) }

@@ -5,4 +5,4 @@ use Rattle.layers.proofs.readings.Readings.put.Goals as goal
 pub invariant_of-self : goal.invariant_of-self
 invariant_of-self c =
     let s = c.args.self.now in
-    (s.some, (s.few, (set_within s.codes c.args.recorder c.args.code (omega arith) s.within, tt)))
+    record { some = s.some; few = s.few; within = set_within s.codes c.args.recorder c.args.code (omega arith) s.within }

@@ -91,11 +91,7 @@ fn capped_sum(a: u64, b: u64, c: u64) -> u64
     ensures { result ≡ min (a + b * c) (2 ^ 64 - 1) }
 {
     let sum = a as u128 + b as u128 * c as u128;
-    if sum <= u64::MAX as u128 {
-        sum as u64
-    } else {
-        u64::MAX
-    }
+    sum.min(u64::MAX as u128) as u64
 }
 
 impl Semiring for Count {

@@ -555,4 +555,5 @@ def main(root):
     print(f"{changed} files")
 
 
-main(sys.argv[1] if len(sys.argv) > 1 else ".")
+if __name__ == "__main__":
+    main(sys.argv[1] if len(sys.argv) > 1 else ".")

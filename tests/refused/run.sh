@@ -8,8 +8,10 @@ work=$(mktemp -d)
 trap 'rm -rf "$work"' EXIT
 mkdir -p "$work/crates"
 for crate in semiring grammar table; do
-    cp -r "$top/crates/$crate" "$work/crates/"
-    rm -rf "$work/crates/$crate/must-fail"
+    mkdir "$work/crates/$crate"
+    for part in src specs proofs; do
+        if [ -d "$top/crates/$crate/$part" ]; then cp -r "$top/crates/$crate/$part" "$work/crates/$crate/"; fi
+    done
     grep "^$crate:" "$top/crates.txt" >> "$work/crates.txt"
 done
 src="$work/crates/table/src"
@@ -18,13 +20,13 @@ grep -v -e 'cfg(test)' -e 'mod tests' "$top/crates/table/src/lib.rt" > "$src/lib
 echo 'pub mod uses;' >> "$src/lib.rt"
 
 cp "$here/second_draft.txt" "$src/uses.rt"
-if ! (cd "$work" && rt check table > accepted.log 2>&1); then
+if ! (cd "$work/crates/table" && rt check > "$work/accepted.log" 2>&1); then
     tail -n 20 "$work/accepted.log"
     echo 'refused: a second draft was not accepted'
     exit 1
 fi
 cp "$here/after_sealing.txt" "$src/uses.rt"
-if (cd "$work" && rt check table > refused.log 2>&1); then
+if (cd "$work/crates/table" && rt check > "$work/refused.log" 2>&1); then
     echo 'refused: a rule added after sealing was accepted'
     exit 1
 fi

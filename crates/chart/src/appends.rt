@@ -15,12 +15,18 @@ use grammar::refusal::Refusal;
 use grammar::weighing::Weighing;
 use semiring::semiring::Semiring;
 
+// Whether the bits are no entry, or have a code from `codes` on.
+pub fn is_improper(bits: u32, codes: u32) -> bool
+    ensures { result ≡ improper bits codes }
+{
+    bits == 0 || (codes < 32 && bits >= 1 << codes)
+}
+
 // The bits as an entry of codes below `codes`.
 pub(crate) fn proper_entry(bits: u32, codes: u32) -> Result<Entry, Refusal>
-    requires { codes ≤ 32 }
     ensures { Admits (verdict (test (improper bits codes) Refusal.BadEntry ∷ [])) bits result }
 {
-    if u64::from(bits) >= 1u64 << codes {
+    if is_improper(bits, codes) {
         return Err(Refusal::BadEntry);
     }
     match Entry::new(bits) {
@@ -38,11 +44,11 @@ pub(crate) fn spans_before(end: usize) -> usize
     end * (end - 1) / 2
 }
 
-// Whether there is no place for another entry.
-pub(crate) fn is_full(count: usize, n: usize, slots: usize) -> bool
-    requires { n ≤ 4096 }
-    ensures { result ≡ full count n slots }
+// Whether there is no place for an entry after the first `count`.
+pub fn is_full(count: usize, nonterminals: u32, slots: usize) -> bool
+    ensures { result ≡ full count nonterminals slots }
 {
+    let n = nonterminals as usize;
     count >= 64 || spans_before(count + 2) * n > slots
 }
 
@@ -54,7 +60,6 @@ pub(crate) fn admit(
     slots: usize,
     bits: u32,
 ) -> Result<Entry, Refusal>
-    requires { (codes ≤ 32) × (n ≤ 4096) }
     ensures { Admits (verdict (entry_tests (record { own = entries.now.nonterminals; slots = slots; shown = n; codes = codes }) entries.now.count entries.now.trial bits)) bits result }
 {
     if n != entries.nonterminals {
@@ -64,7 +69,7 @@ pub(crate) fn admit(
         return Err(Refusal::TrialOpen);
     }
     let entry = proper_entry(bits, codes)?;
-    if is_full(entries.count, n as usize, slots) {
+    if is_full(entries.count, n, slots) {
         return Err(Refusal::NoRoom);
     }
     Ok(entry)

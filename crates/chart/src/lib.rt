@@ -14,3 +14,5 @@ mod replaces;
 pub mod slots;
 pub mod trial;
 mod trials;
+
+pub use appends::{is_full, is_improper};

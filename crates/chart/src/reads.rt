@@ -55,6 +55,7 @@ impl<'a, S: Semiring> Chart<'a, S> {
     }
 
     // The entry at a place, if there is one.
+    #[tactic(auto, using(crate::proofs::Listing::size, crate::proofs::Listing::at_place))]
     pub fn entry(&self, place: usize) -> Option<Entry>
         ensures { MatchOption result (length (state self.now.entries).entries ≤ place) (λ e. (place < length (state self.now.entries).entries) × (e.bits ≡ slice_index (state self.now.entries).entries place)) }
     {

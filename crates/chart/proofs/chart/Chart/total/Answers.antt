@@ -15,14 +15,19 @@ returns-then-self-eq0 g c =
     let e = c.args.self.now.entries in
     let xs = c.args.self.now.slots.cells.now in
     let ring = g.S.Semiring.ring in
-    let r : Result g.row.S.Denot Refusal = Ok c.zero-sum.result in
-    let is : r ≡ total_answer ring m e.nonterminals e.count xs =
-    answered ring m e.nonterminals e.count xs c.zero-sum.result (sym c.nonterminals.ensures ∙ c.if-nonterminals-n.false)
-    (c.zero-sum.ensures ∙ sym (none_whole ring m e.count xs c.if-self-eq0.true)) in
-    record { is = is; total = λ w. answer_stands g.met.S.Semiring.laws (by w) m (g.G.Grammar.shown c.args.grammar.now) e xs r is }
+    let own : m.nonterminals ≡ e.nonterminals = sym c.nonterminals.ensures ∙ c.if-nonterminals-n.false in
+    let whole = none_whole ring m e.count xs c.if-self-eq0.true in
+    record {
+      is = answered ring m e.nonterminals e.count xs _ own (cc whole);
+      total = λ w. answer_stands g.met.S.Semiring.laws (by w) m (g.G.Grammar.shown c.args.grammar.now) e xs _ (answered ring m e.nonterminals e.count xs _ own (cc whole));
+    }
 
 pub loop-a-init : goal.loop-a-init
-loop-a-init g c = c.zero-sum.ensures ∙ sym (sum_none g.S.Semiring.ring _)
+loop-a-init g c =
+    let m = g.G.Grammar.meaning c.args.grammar.now in
+    let e = c.args.self.now.entries in
+    let ring = g.S.Semiring.ring in
+    cc (sum_none ring (λ (A : ℕ). cond (m.start A) (cell_at ring e.nonterminals c.args.self.now.slots.cells.now 0 e.count A) ring.zero))
 
 pub loop-a-preserved : goal.loop-a-preserved
 loop-a-preserved g c =

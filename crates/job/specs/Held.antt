@@ -7,7 +7,7 @@ use Rattle.table.specs.Tables.{as_added, table_meaning}
 use Rattle.table.specs.Drafts.{contents}
 use Rattle.automata.specs.Held.{table_machine}
 use Rattle.layers.specs.declared.readings.Readings.{Readings}
-use Rattle.layers.specs.Held.{banned, recorder as recorderOf}
+use Rattle.layers.specs.Held.{banned, recorder as recorder_of}
 use Rattle.layers.specs.Renaming.{Recorder}
 use Rattle.job.specs.declared.appends.Appends.{Appends}
 use Rattle.job.specs.declared.description.Description.{Description}
@@ -21,7 +21,7 @@ entries_of a = map bits_of (take a.count a.calls)
 -- the recorder, if there are readings
 abbrev pub recorder_in : Option Readings → Option Recorder
 recorder_in None = None
-recorder_in (Some r) = Some (recorderOf r)
+recorder_in (Some r) = Some (recorder_of r)
 
 -- what a draft and a description hold
 abbrev pub held : Draft → Description → Described

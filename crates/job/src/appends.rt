@@ -2,7 +2,7 @@
 ghost use Rattle.std.specs.Prelude.{◌≡◌, ◌≤◌, map, length, take};
 ghost use Rattle.job.specs.Appending.{bits_of, appended};
 
-use entries::call::Call;
+use chart::call::Call;
 
 #[derive(Clone, Copy)]
 pub(crate) struct Appends {

@@ -12,7 +12,7 @@ ghost use Rattle.job.specs.Reports.{accepted, written_by, UnitTotal, Comes};
 use crate::entering::SLOTS;
 use answer::report::{Report, Totals};
 use chart::chart::Chart;
-use entries::call::Call;
+use chart::call::Call;
 use grammar::grammar::Grammar;
 use grammar::refusal::Refusal;
 use grammar::weighing::UnitWeighing;
@@ -40,11 +40,11 @@ fn ask<G: Grammar>(
     calls: &[Call],
     records: &mut [Record],
 ) -> (Totals, Result<usize, Refusal>)
-    ensures count { UnitTotal count (meaning grammar.now) (accepted (meaning grammar.now) (length counts.old) calls.now) result.0.count }
-    ensures cost { TotalOf cost (EntriesFromStarts (meaning grammar.now) (accepted (meaning grammar.now) (length costs.old) calls.now)) (weight_of cost by_cost (meaning grammar.now)) result.0.cost }
+    ensures count { UnitTotal count (G.meaning grammar.now) (accepted (G.meaning grammar.now) (length counts.old) calls.now) result.0.count }
+    ensures cost { TotalOf cost (EntriesFromStarts (G.meaning grammar.now) (accepted (G.meaning grammar.now) (length costs.old) calls.now)) (weight_of cost by_cost (G.meaning grammar.now)) result.0.cost }
     ensures read { result.0.read ≡ of_bool (not (result.0.cost.value == none)) }
-    ensures tree { TreeAfter (meaning grammar.now) (accepted (meaning grammar.now) (length costs.old) calls.now) records.old records.new result.1 }
-    ensures few { length (accepted (meaning grammar.now) (length counts.old) calls.now) ≤ 64 }
+    ensures tree { TreeAfter (G.meaning grammar.now) (accepted (G.meaning grammar.now) (length costs.old) calls.now) records.old records.new result.1 }
+    ensures few { length (accepted (G.meaning grammar.now) (length counts.old) calls.now) ≤ 64 }
 {
     let mut chart = Chart::new(counts, grammar);
     let Replayed {
@@ -89,7 +89,7 @@ fn written(tree: Result<usize, Refusal>) -> usize
 
 // What the calls come to by the grammar.
 pub(crate) fn report<G: Grammar>(grammar: &G, calls: &[Call]) -> Report
-    ensures { Comes (meaning grammar.now) (accepted (meaning grammar.now) 4096 calls.now) result }
+    ensures { Comes (G.meaning grammar.now) (accepted (G.meaning grammar.now) 4096 calls.now) result }
 {
     let mut records = [Record {
         begin: 0,

@@ -1,10 +1,12 @@
 // One call of a list.
-ghost use Rattle.std.specs.Prelude.{◌≡◌, ℕ, false, length, is_some};
+ghost use Rattle.std.specs.Prelude.{◌≡◌, ℕ, length, is_some, None, Ok};
 ghost use Rattle.grammar.specs.Grammars.{Meaning};
-ghost use Rattle.chart.specs.Model.{terms, state, Did, ChartStands};
+ghost use Rattle.chart.specs.declared.call.Call.{Call};
+ghost use Rattle.chart.specs.Model.{Terms, terms, state, Did};
+ghost use Rattle.chart.specs.Model.{ChartStands};
 
-use chart::call::Call;
 use chart::chart::Chart;
+use chart::call::Call;
 use chart::trial::Trial;
 use grammar::grammar::Grammar;
 use grammar::refusal::Refusal;
@@ -20,6 +22,45 @@ pub(crate) fn settle<'a, S: Semiring>(chart: &mut Chart<'a, S>, held: Option<Tri
 {
     if let Some(trial) = held {
         let _ = chart.keep(trial);
+    }
+}
+
+// Begins a run: the chart is cleared, and no token is in hand.
+pub(crate) fn begin<'a, S: Semiring>(chart: &mut Chart<'a, S>) -> Option<Trial>
+    ensures did { (t : Terms) → Did t chart.old.entries Call.Clear (Ok tt) chart.new.entries }
+    ensures held { result ≡ None }
+    ensures same { chart.new.slots.cells.now ≡ chart.old.slots.cells.now }
+    ensures named { chart.new.slots.cells.ghost_name ≡ chart.old.slots.cells.ghost_name }
+{
+    chart.clear();
+    None
+}
+
+// Keeps the entry on trial, by the token in hand; without one, no trial is open.
+fn keep<'a, S: Semiring>(chart: &mut Chart<'a, S>, held: Option<Trial>) -> Result<(), Refusal>
+    requires { is_some held ≡ chart.old.entries.trial }
+    ensures did { (t : Terms) → Did t chart.old.entries Call.Keep result chart.new.entries }
+    ensures stands { (w : ℕ → ℕ → S) (m : Meaning) → ChartStands S.ring w m chart.old.entries chart.old.slots.cells.now → ChartStands S.ring w m chart.new.entries chart.new.slots.cells.now }
+    ensures same { chart.new.slots.cells.now ≡ chart.old.slots.cells.now }
+    ensures named { chart.new.slots.cells.ghost_name ≡ chart.old.slots.cells.ghost_name }
+{
+    match held {
+        Some(trial) => chart.keep(trial),
+        None => Err(Refusal::NoTrial),
+    }
+}
+
+// Withdraws the entry on trial, by the token in hand; without one, no trial is open.
+fn withdraw<'a, S: Semiring>(chart: &mut Chart<'a, S>, held: Option<Trial>) -> Result<(), Refusal>
+    requires { is_some held ≡ chart.old.entries.trial }
+    ensures did { (t : Terms) → Did t chart.old.entries Call.Withdraw result chart.new.entries }
+    ensures stands { (w : ℕ → ℕ → S) (m : Meaning) → ChartStands S.ring w m chart.old.entries chart.old.slots.cells.now → ChartStands S.ring w m chart.new.entries chart.new.slots.cells.now }
+    ensures same { chart.new.slots.cells.now ≡ chart.old.slots.cells.now }
+    ensures named { chart.new.slots.cells.ghost_name ≡ chart.old.slots.cells.ghost_name }
+{
+    match held {
+        Some(trial) => chart.withdraw(trial),
+        None => Err(Refusal::NoTrial),
     }
 }
 
@@ -41,8 +82,7 @@ pub(crate) fn perform<'a, S: Semiring, G: Grammar, W: Weighing<Value = S>>(
     match call {
         Call::Clear => {
             settle(chart, held);
-            chart.clear();
-            (Ok(()), None)
+            (Ok(()), begin(chart))
         }
         Call::Append(bits) => (chart.append(grammar, weighing, bits), held),
         Call::TakeBack => (chart.take_back(), held),
@@ -54,13 +94,7 @@ pub(crate) fn perform<'a, S: Semiring, G: Grammar, W: Weighing<Value = S>>(
             },
             Err(why) => (Err(why), held),
         },
-        Call::Keep => match held {
-            Some(trial) => (chart.keep(trial), None),
-            None => (Err(Refusal::NoTrial), None),
-        },
-        Call::Withdraw => match held {
-            Some(trial) => (chart.withdraw(trial), None),
-            None => (Err(Refusal::NoTrial), None),
-        },
+        Call::Keep => (keep(chart, held), None),
+        Call::Withdraw => (withdraw(chart, held), None),
     }
 }

@@ -125,7 +125,12 @@ fn calls_with_refusals(rt: HostRuntime) -> Result<(), Fail> {
         &mut answers,
         &mut records,
     );
-    let Replayed { total, tree, trial } = done;
+    let Replayed {
+        total,
+        cost: _,
+        tree,
+        trial,
+    } = done;
     if let Some(trial) = trial {
         let _ = chart.keep(trial);
         return Err(Fail::new("a trial is left open"));

@@ -45,6 +45,7 @@ fn total<S: Semiring, G: Grammar, W: Weighing<Value = S>>(
     let mut costs = [Cost::zero(); 3];
     let Replayed {
         total,
+        cost: _,
         tree: _,
         trial,
     } = replay(

@@ -28,6 +28,6 @@ pub returns-in-Ok-Some-Grammar : goal.returns-in-Ok-Some-Grammar
 returns-in-Ok-Some-Grammar c =
     let same = same_input c.new-reader.result c.next.new.self c.next.result c.next.ensures.step in
     record {
-      is = subst (λ i. Answers i.now c.answer-with.result) (same ∙ c.new-reader.ensures.start.0) c.answer-with.ensures;
+      is = subst (λ i. Answers i.now c.answer_with.result) (same ∙ c.new-reader.ensures.start.0) c.answer_with.ensures;
       one = one_outcome c.args.input.now;
     }

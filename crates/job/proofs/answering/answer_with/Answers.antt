@@ -27,7 +27,7 @@ returns-in-Some c =
       split = c.requires.read.split;
       ordered = c.requires.read.ordered;
       passes = tt;
-      refused = sym (fresh_refusal _ _ _ _ _) ∙ sym (ap (λ d. d.refusal) c.new-draft.ensures.draft) ∙ sym c.refusal.ensures ∙ c.in-Some.is;
+      refused = sym (fresh_refusal _ _ _ _ _) ∙ sym (ap (λ d. d.refusal) c.new_draft.ensures.draft) ∙ sym c.refusal.ensures ∙ c.in-Some.is;
       here = refl;
     }))
 
@@ -36,6 +36,6 @@ returns-in-Ok c =
     let t = c.load.new.draft in
     let d = c.load.new.description in
     let h = held t d in
-    let x = c.stack-report.result in
+    let x = c.stack_report.result in
     reads (input_of c.args.reader) h x c.in-Ok.ensures (held_small t d)
-    (subst (λ m. Comes (stacked h.bans h.machine h.recorder m) (accepted (stacked h.bans h.machine h.recorder m) 4096 (map appended h.entries)) x) c.seal.ensures c.stack-report.ensures)
+    (subst (λ m. Comes (stacked h.bans h.machine h.recorder m) (accepted (stacked h.bans h.machine h.recorder m) 4096 (map appended h.entries)) x) c.seal.ensures c.stack_report.ensures)

@@ -1,7 +1,7 @@
 use Rattle.std.proofs.Common.{◌≡◌, ◌≤◌, length, IfOk, ap, ◌∙◌, subst, arith}
 use Rattle.semiring.specs.Counts.{count}
-use Rattle.entries.specs.Model.{terms, state, empty}
-use Rattle.entries.proofs.Listing.{size}
+use Rattle.chart.specs.Model.{terms, state, empty}
+use Rattle.chart.proofs.Listing.{size}
 use Rattle.runs.specs.Runs.{run}
 use Rattle.job.specs.Reports.{accepted, UnitTotal}
 use Rattle.job.proofs.asking.ask.Goals as goal
@@ -19,7 +19,7 @@ returns g c =
     record {
       count = subst (λ es. UnitTotal count m es c.in-Ok.count) at whole;
       cost = c.replay-total.ensures.cost;
-      read = c.is-read.ensures;
+      read = c.is_read.ensures;
       tree = c.replay-total.ensures.tree;
       few = subst (λ es. length es ≤ 64) at (omega (arith, size e, e.few));
     }

@@ -1,4 +1,4 @@
-use Rattle.std.proofs.Common.{◌≡◌, List, [], length, Ok, sym, refl, ap, ◌∙◌, subst, arith}
+use Rattle.std.proofs.Common.{◌≡◌, List, [], length, is_some, Ok, sym, refl, ap, ◌∙◌, subst, arith}
 use Rattle.chart.specs.declared.call.Call.TheVariants.{Clear, TakeBack, Keep, Withdraw}
 use Rattle.chart.specs.Model.{State, state, terms, answer, Did}
 use Rattle.runs.proofs.Marks.{take_back_mark, keep_mark, withdraw_mark}
@@ -8,16 +8,16 @@ pub returns-in-Clear : goal.returns-in-Clear
 returns-in-Clear g c =
     let m = g.G.Grammar.meaning c.args.grammar.now in
     let e = c.args.chart.now.entries in
-    let f = c.clear.new.self.entries in
+    let f = c.begin.new.chart.entries in
     let t = terms m e.nonterminals (length c.args.chart.now.slots.cells.now) in
-    let did = c.clear.ensures.did t in
+    let did = c.begin.ensures.did t in
     let none : (state f).entries ≡ [] = ap (λ (s : State). s.entries) did.moved in
     record {
       did = subst (λ k. Did t e k (Ok tt) f) (sym c.in-Clear.is) (record { answered = refl; moved = did.moved; own = did.own ∙ c.settle.ensures.own });
-      held = sym (ap (λ (s : State). s.trial) did.moved);
+      held = ap is_some c.begin.ensures.held ∙ sym (ap (λ (s : State). s.trial) did.moved);
       stands = λ before begin end A some fits. absurd (let empty = ap length none in omega arith);
-      long = ap length (c.clear.ensures.same ∙ c.settle.ensures.same);
-      named = c.clear.ensures.named ∙ c.settle.ensures.named;
+      long = ap length (c.begin.ensures.same ∙ c.settle.ensures.same);
+      named = c.begin.ensures.named ∙ c.settle.ensures.named;
     }
 
 pub returns-in-TakeBack : goal.returns-in-TakeBack
@@ -34,28 +34,28 @@ returns-in-TakeBack g c =
       named = c.take_back.ensures.named;
     }
 
-pub returns-in-Some-held : goal.returns-in-Some-held
-returns-in-Some-held g c =
+pub returns-in-Keep : goal.returns-in-Keep
+returns-in-Keep g c =
     let m = g.G.Grammar.meaning c.args.grammar.now in
     let e = c.args.chart.now.entries in
     let t = terms m e.nonterminals (length c.args.chart.now.slots.cells.now) in
     let did = c.keep.ensures.did t in
     record {
-      did = subst (λ k. Did t e k c.keep.result c.keep.new.self.entries) (sym c.in-Keep.is) did;
+      did = subst (λ k. Did t e k c.keep.result c.keep.new.chart.entries) (sym c.in-Keep.is) did;
       held = sym (ap (λ (s : State). s.trial) did.moved ∙ keep_mark t (state e));
       stands = c.keep.ensures.stands (g.W.Weighing.weight c.args.weighing.now) m;
       long = ap length c.keep.ensures.same;
       named = c.keep.ensures.named;
     }
 
-pub returns-in-Some-held-2 : goal.returns-in-Some-held-2
-returns-in-Some-held-2 g c =
+pub returns-in-Withdraw : goal.returns-in-Withdraw
+returns-in-Withdraw g c =
     let m = g.G.Grammar.meaning c.args.grammar.now in
     let e = c.args.chart.now.entries in
     let t = terms m e.nonterminals (length c.args.chart.now.slots.cells.now) in
     let did = c.withdraw.ensures.did t in
     record {
-      did = subst (λ k. Did t e k c.withdraw.result c.withdraw.new.self.entries) (sym c.in-Withdraw.is) did;
+      did = subst (λ k. Did t e k c.withdraw.result c.withdraw.new.chart.entries) (sym c.in-Withdraw.is) did;
       held = sym (ap (λ (s : State). s.trial) did.moved ∙ withdraw_mark t (state e));
       stands = c.withdraw.ensures.stands (g.W.Weighing.weight c.args.weighing.now) m;
       long = ap length c.withdraw.ensures.same;

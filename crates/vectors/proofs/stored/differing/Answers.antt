@@ -8,11 +8,11 @@ pub loop-number-preserved : goal.loop-number-preserved
 loop-number-preserved c =
     elim c.if-not-branch.branch [
       | then-not-branch+in-ok-push w ↦
-          let more : vec_len c.if-not-branch.numbers ≡ vec_len c.loop-number.numbers + 1 = ap vec_len w.numbers-is ∙ w.in-ok-push.ensures.len in
+          let more : vec_len c.if-not-branch.numbers ≡ vec_len c.loop-number.numbers + 1 = ap vec_len w.numbers-is ∙ w.in_ok-push.ensures.len in
           (omega arith, λ none. absurd (omega arith))
       | else-not-branch w ↦
           let same : vec_len c.if-not-branch.numbers ≡ vec_len c.loop-number.numbers = ap vec_len w.numbers-is in
-          (omega arith, λ none. right_more _ _ _ c.loop-number-test.true (c.loop-number.invariant.1 (omega arith)) (subst Right c.index-all-number.is (c.in-ok-agrees.ensures w.if-not-branch.false)))
+          (omega arith, λ none. right_more _ _ _ c.loop-number-test.true (c.loop-number.invariant.1 (omega arith)) (subst Right c.index-all-number.is (c.in_ok-agrees.ensures w.if-not-branch.false)))
     ]
 
 pub returns : goal.returns

@@ -7,7 +7,7 @@ use Rattle.vectors.proofs.stored.lines.Goals as goal
 pub loop-byte-preserved : goal.loop-byte-preserved
 loop-byte-preserved c =
     let in_reach : c.loop-byte.byte-index < length c.args.barred.now = omega arith in
-    let pushed = c.in-ok-push.ensures.items in
+    let pushed = c.in_ok-push.ensures.items in
     let taken = take_more c.args.barred.now c.loop-byte.byte-index 0 in_reach in
     let mapped = map-append line_feed (take c.loop-byte.byte-index c.args.barred.now) (get_or c.args.barred.now c.loop-byte.byte-index 0 ∷ []) in
     cc
@@ -15,6 +15,6 @@ loop-byte-preserved c =
 pub returns : goal.returns
 returns c =
     let past : length c.args.barred.now ≤ c.loop-byte.byte-index = omega arith in
-    let pushed = c.in-ok-push-2.ensures.items in
+    let pushed = c.in_ok-push-2.ensures.items in
     let all = take_all c.loop-byte.byte-index c.args.barred.now past in
     cc

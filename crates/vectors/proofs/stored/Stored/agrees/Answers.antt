@@ -6,7 +6,7 @@ use Rattle.std.proofs.lemmas.Bool.Decides.{Decides-eqb}
 
 pub returns : goal.returns
 returns c = λ same.
-    let says = c.in-ok-said.ensures.says in
+    let says = c.in_ok-said.ensures.says in
     let is = says.is in
     let equal = (slice_eq-Decides Decides-eqb _ _ _ c.eq.ensures).0 same in
-    record { answer = says.answer; answers = subst (λ (input : List ℕ). Answers input says.answer) c.as-slice.ensures.value says.answers; is = cc }
+    record { answer = says.answer; answers = subst (λ (input : List ℕ). Answers input says.answer) c.as_slice.ensures.value says.answers; is = cc }

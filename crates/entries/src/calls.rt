@@ -53,8 +53,8 @@ impl Entries {
         slots: usize,
         bits: u32,
     ) -> Result<Entry, Refusal>
-        ensures did { Did (terms (meaning grammar.now) self.old.nonterminals slots) self.old (Call.Append bits) (plain result) self.new }
-        ensures added { MatchResult result (Added (meaning grammar.now) self.old.nonterminals slots self.old.count bits) (λ _. self.new ≡ self.old) }
+        ensures did { Did (terms (G.meaning grammar.now) self.old.nonterminals slots) self.old (Call.Append bits) (plain result) self.new }
+        ensures added { MatchResult result (Added (G.meaning grammar.now) self.old.nonterminals slots self.old.count bits) (λ _. self.new ≡ self.old) }
     {
         let entry = self.admit(grammar.nonterminals(), grammar.codes(), slots, bits)?;
         self.push(entry);
@@ -63,8 +63,8 @@ impl Entries {
 
     // Changes the entry at the place `k`.
     pub fn replace<G: Grammar>(&mut self, grammar: &G, k: usize, bits: u32) -> Result<(), Refusal>
-        ensures did { (slots : ℕ) → Did (terms (meaning grammar.now) self.old.nonterminals slots) self.old (Call.Replace k bits) result self.new }
-        ensures inside { MatchResult result (λ _. ((meaning grammar.now).nonterminals ≡ self.old.nonterminals) × (k < self.old.count)) (λ _. self.new ≡ self.old) }
+        ensures did { (slots : ℕ) → Did (terms (G.meaning grammar.now) self.old.nonterminals slots) self.old (Call.Replace k bits) result self.new }
+        ensures inside { MatchResult result (λ _. ((G.meaning grammar.now).nonterminals ≡ self.old.nonterminals) × (k < self.old.count)) (λ _. self.new ≡ self.old) }
     {
         let entry = self.admit_at(grammar.nonterminals(), grammar.codes(), k, bits)?;
         self.put(k, entry);

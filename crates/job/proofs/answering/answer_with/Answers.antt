@@ -27,7 +27,7 @@ returns-in-Some c =
       split = c.requires.read.split;
       ordered = c.requires.read.ordered;
       passes = tt;
-      refused = sym (fresh_refusal _ _ _ _ _) ∙ sym (ap (λ d. d.refusal) c.new_draft.ensures.draft) ∙ sym c.refusal.ensures ∙ c.in-Some.is;
+      refused = sym (fresh_refusal _ _ _ _ _) ∙ sym (ap (λ d. d.refusal) c.new-draft.ensures.draft) ∙ sym c.refusal.ensures ∙ c.in-Some.is;
       here = refl;
     }))
 

@@ -2,12 +2,12 @@ use Rattle.std.proofs.Common.{◌≡◌, ◌+◌, vec_len, ap, ◌∙◌, subst,
 use Rattle.vectors.specs.Jobs.{Right, AllRight}
 use Rattle.vectors.proofs.More.{right_more}
 use Rattle.vectors.proofs.stored.differing.Goals as goal
-use Rattle.vectors.proofs.stored.differing.Goals.{then-not-branch+in-ok-push, else-not-branch}
+use Rattle.vectors.proofs.stored.differing.Goals.{then-not-branch+in_ok-push, else-not-branch}
 
 pub loop-number-preserved : goal.loop-number-preserved
 loop-number-preserved c =
     elim c.if-not-branch.branch [
-      | then-not-branch+in-ok-push w ↦
+      | then-not-branch+in_ok-push w ↦
           let more : vec_len c.if-not-branch.numbers ≡ vec_len c.loop-number.numbers + 1 = ap vec_len w.numbers-is ∙ w.in_ok-push.ensures.len in
           (omega arith, λ none. absurd (omega arith))
       | else-not-branch w ↦

@@ -8,7 +8,7 @@ use Rattle.answer.proofs.text.NodesDisplay.fmt.Goals as goal
 pub loop-record-preserved : goal.loop-record-preserved
 loop-record-preserved g c = λ p.
     let before = c.loop-record.invariant p in
-    let line = c.in_ok-write.ensures.shows before.plain refl in
+    let line = c.in_ok-write.ensures.writes before.plain refl in
     has_written_of_eq g.W.Write.write_str_gives _ _ _ _ (sym (lines_more c.args.self.now.records.now c.loop-record.record-index _ c.loop-record-test.true)) (has_written_append g.W.Write.write_str_gives _ _ _ _ _ before line)
 
 pub returns-clause-writes : goal.returns-clause-writes

@@ -7,8 +7,8 @@ use Rattle.entries.proofs.list.Entries.all.Goals as goal
 pub returns : goal.returns
 returns c =
     let e = c.args.self.now in
-    let r = c.in-use.result.now in
-    let is = ap (map bits_of) c.in-use.ensures in
+    let r = c.in_use.result.now in
+    let is = ap (map bits_of) c.in_use.ensures in
     record {
       is = is;
       long = sym (length-map r bits_of) ∙ ap length is;

@@ -11,27 +11,27 @@ returns g c =
     let f = c.push.new.self in
     let m = g.G.Grammar.meaning c.args.grammar.now in
     let bits = c.args.bits in
-    let x = c.in-ok-entry.entry in
+    let x = c.in_ok-entry.entry in
     let t = terms m e.nonterminals c.args.slots in
     let said : verdict (entry_tests t e.count e.trial bits) ≡ Ok tt = search rules in
-    let same : x.bits ≡ bits = c.in-ok-entry.ensures.1 in
+    let same : x.bits ≡ bits = c.in_ok-entry.ensures.1 in
     let more = pushed e.list e.count x (omega (arith, e.long)) ∙ ap (λ b. (state e).entries ++ (b ∷ [])) same in
     let moved : state f ≡ does (state e) (Append bits) = state_of f c.push.ensures ∙ (λ i. record { entries = more i; trial = e.trial }) in
     record {
-      did = accepted t e f (Append bits) (entry_verdict t e bits (Ok tt) said) moved c.push.ensures.own-is;
+      did = accepted t e f (Append bits) (entry_verdict t e bits (Ok tt) said) moved c.push.ensures.own_is;
       added = record { bits_are = same; same = search rules; room = search rules };
     }
 
-pub returns-in-err-entry : goal.returns-in-err-entry
-returns-in-err-entry g c =
+pub returns-in_err-entry : goal.returns-in_err-entry
+returns-in_err-entry g c =
     let e = c.args.self.now in
     let m = g.G.Grammar.meaning c.args.grammar.now in
     let bits = c.args.bits in
     let t = terms m e.nonterminals c.args.slots in
-    let why = c.in-err-entry.field-0.0 in
+    let why = c.in_err-entry.field-0.0 in
     let said : verdict (entry_tests t e.count e.trial bits) ≡ Err why = search rules in
-    let is : c.from-residual.result ≡ Err why = search rules in
+    let is : c.from_residual.result ≡ Err why = search rules in
     record {
       did = subst (λ r. Did t e (Append bits) (plain r) e) (sym is) (refused t e (Append bits) why (entry_verdict t e bits (Err why) said));
-      added = on_err _ _ c.from-residual.result why is refl;
+      added = on_err _ _ c.from_residual.result why is refl;
     }

@@ -12,30 +12,30 @@ returns g c =
     let m = g.G.Grammar.meaning c.args.grammar.now in
     let bits = c.args.bits in
     let k = c.args.k in
-    let x = c.in-ok-entry.entry in
-    let through = c.in-ok-entry.ensures in
+    let x = c.in_ok-entry.entry in
+    let through = c.in_ok-entry.ensures in
     let said : (slots : ℕ) → verdict (replace_tests (terms m e.nonterminals slots) e.count e.trial k bits) ≡ Ok tt =
     λ slots. let admitted = through.admits slots in search rules in
     let same : x.bits ≡ bits = (through.admits 0).1 in
     let here = swapped e.list e.count k x through.inside.1 ∙ ap (set (state e).entries k) same in
     let moved : state f ≡ does (state e) (Replace k bits) = state_of f c.put.ensures ∙ (λ i. record { entries = here i; trial = e.trial }) in
     record {
-      did = λ slots. accepted (terms m e.nonterminals slots) e f (Replace k bits) (replace_verdict (terms m e.nonterminals slots) e k bits (Ok tt) (said slots)) moved c.put.ensures.own-is;
+      did = λ slots. accepted (terms m e.nonterminals slots) e f (Replace k bits) (replace_verdict (terms m e.nonterminals slots) e k bits (Ok tt) (said slots)) moved c.put.ensures.own_is;
       inside = (sym c.nonterminals.ensures ∙ through.inside.0, through.inside.1);
     }
 
-pub returns-in-err-entry : goal.returns-in-err-entry
-returns-in-err-entry g c =
+pub returns-in_err-entry : goal.returns-in_err-entry
+returns-in_err-entry g c =
     let e = c.args.self.now in
     let m = g.G.Grammar.meaning c.args.grammar.now in
     let bits = c.args.bits in
     let k = c.args.k in
-    let why = c.in-err-entry.field-0.0 in
+    let why = c.in_err-entry.field-0.0 in
     let said : (slots : ℕ) → verdict (replace_tests (terms m e.nonterminals slots) e.count e.trial k bits) ≡ Err why =
-    λ slots. let admitted = c.in-err-entry.ensures.admits slots in search rules in
-    let is : c.from-residual.result ≡ Err why = search rules in
+    λ slots. let admitted = c.in_err-entry.ensures.admits slots in search rules in
+    let is : c.from_residual.result ≡ Err why = search rules in
     record {
       did = λ slots. subst (λ r. Did (terms m e.nonterminals slots) e (Replace k bits) r e) (sym is)
           (refused (terms m e.nonterminals slots) e (Replace k bits) why (replace_verdict (terms m e.nonterminals slots) e k bits (Err why) (said slots)));
-      inside = on_err _ _ c.from-residual.result why is refl;
+      inside = on_err _ _ c.from_residual.result why is refl;
     }

@@ -14,7 +14,7 @@ returns c =
     let said : (t : Terms) → answer t (state e) TakeBack ≡ Ok tt = λ t.
     cond-false e.trial _ _ c.if-self.false ∙ cond-false (eqb (length (state e).entries) 0) _ _ (ne_eqb _ 0 (λ z. c.if-self-eq0.false (sym (size e) ∙ z))) in
     let moved : state f ≡ does (state e) TakeBack = state_of f c.pop.ensures ∙ (λ i. record { entries = shorter e i; trial = e.trial }) in
-    let did : (t : Terms) → Did t e TakeBack (Ok tt) f = λ t. accepted t e f TakeBack (said t) moved c.pop.ensures.own-is in
+    let did : (t : Terms) → Did t e TakeBack (Ok tt) f = λ t. accepted t e f TakeBack (said t) moved c.pop.ensures.own_is in
     record { did = did; front = taken_back e f (Ok tt) did }
 
 pub returns-then-self : goal.returns-then-self

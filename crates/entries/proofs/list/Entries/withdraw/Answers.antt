@@ -10,7 +10,7 @@ returns c =
     let e = c.args.self.now in
     let k = c.keep.new.self in
     let f = c.pop.new.self in
-    let kept = c.in-ok-keep.ensures.did in
+    let kept = c.in_ok-keep.ensures.did in
     let did : (t : Terms) → Did t e Withdraw (Ok tt) f = λ t.
     let marked : state k ≡ does (state e) Keep = (kept t).moved ∙ ap (λ r. after r (state e) Keep) (sym (kept t).answered) in
     let moved : state f ≡ does (state e) Withdraw =
@@ -18,22 +18,22 @@ returns c =
     record {
       answered = (kept t).answered;
       moved = moved ∙ ap (λ r. after r (state e) Withdraw) (kept t).answered;
-      own = c.pop.ensures.own-is ∙ (kept t).own;
+      own = c.pop.ensures.own_is ∙ (kept t).own;
     } in
     record { did = did; front = withdrawn e f (Ok tt) did }
 
-pub returns-in-err-keep : goal.returns-in-err-keep
-returns-in-err-keep c =
+pub returns-in_err-keep : goal.returns-in_err-keep
+returns-in_err-keep c =
     let e = c.args.self.now in
     let f = c.keep.new.self in
-    let kept = c.in-err-keep.ensures.did in
-    let why = c.in-err-keep.field-0.0 in
-    let is : c.from-residual.result ≡ Err why = search rules in
+    let kept = c.in_err-keep.ensures.did in
+    let why = c.in_err-keep.field-0.0 in
+    let is : c.from_residual.result ≡ Err why = search rules in
     record {
       did = λ t. subst (λ r. Did t e Withdraw r f) (sym is) (record {
         answered = (kept t).answered;
         moved = (kept t).moved ∙ ap (λ r. after r (state e) Keep) (sym (kept t).answered) ∙ ap (λ r. after r (state e) Withdraw) (kept t).answered;
         own = (kept t).own;
       });
-      front = c.in-err-keep.ensures.front;
+      front = c.in_err-keep.ensures.front;
     }

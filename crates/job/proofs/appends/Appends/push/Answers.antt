@@ -10,7 +10,11 @@ pub invariant_of-self : goal.invariant_of-self
 invariant_of-self c =
     let a = c.args.self.now in
     let h : a.count < length a.calls = omega (arith, c.requires, size a, a.long) in
-    (simp length-set a.long, (omega (arith, c.requires, size a), (all_pushed a.calls a.count c.args.bits h a.all, tt)))
+    record {
+      long = simp length-set a.long;
+      few = omega (arith, c.requires, size a);
+      all = all_pushed a.calls a.count c.args.bits h a.all;
+    }
 
 pub returns : goal.returns
 returns c =

@@ -1,9 +1,9 @@
 -- Accepted and refused calls, in the model's words. Assumes nothing.
-use Rattle.std.proofs.Common.{◌≡◌, ℕ, Bool, List, length, Ok, Err, Result, sym, ap, ◌∙◌, subst, MatchResult}
+use Rattle.std.proofs.Common.{◌≡◌, ℕ, length, Ok, Err, Result, sym, ap, ◌∙◌, subst, MatchResult}
 use Rattle.grammar.specs.declared.refusal.Refusal.{Refusal}
 use Rattle.chart.specs.declared.entries.Entries.{Entries}
 use Rattle.chart.specs.declared.call.Call.{Call}
-use Rattle.chart.specs.Model.{State, state, Terms, Test, verdict, entry_tests, replace_tests, answer, after, does, step, Did}
+use Rattle.chart.specs.Model.{state, Terms, verdict, entry_tests, replace_tests, answer, after, does, Did}
 use Rattle.chart.proofs.Listing.{size}
 
 -- an accepted call took e to f

@@ -1,5 +1,5 @@
 -- Fewer entries: there is room for them, and the cells still stand. Assumes nothing.
-use Rattle.std.proofs.Common.{◌≡◌, ℕ, ◌+◌, ◌-◌, ◌*◌, ◌<◌, ◌≤◌, min, List, map, length, take, drop, sym, refl, ap, ◌∙◌, subst, arith, length-take, take-take}
+use Rattle.std.proofs.Common.{◌≡◌, ℕ, ◌+◌, ◌-◌, ◌*◌, ◌<◌, ◌≤◌, List, map, take, drop, sym, ap, ◌∙◌, subst, arith, length-take, take-take}
 use Rattle.std.proofs.lemmas.List.{drop-take, take-map}
 use Rattle.semiring.specs.Semirings.{Operations}
 use Rattle.grammar.specs.declared.rule.Rule.{Rule}
@@ -8,7 +8,7 @@ use Rattle.grammar.specs.Derivations.{DerivesEntries}
 use Rattle.grammar.specs.Totals.{TotalOf, weight_of}
 use Rattle.grammar.specs.Spans.{span, Stands}
 use Rattle.chart.specs.declared.entry.Entry.{Entry}
-use Rattle.chart.specs.Cells.{triangle, Room}
+use Rattle.chart.specs.Cells.{triangle}
 use Rattle.chart.specs.Model.{bits_of}
 use Rattle.chart.proofs.Places.{room_before}
 

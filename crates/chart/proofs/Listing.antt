@@ -1,11 +1,11 @@
 -- The entries of a chart as bits, when one is added, removed or replaced. Assumes nothing.
-use Rattle.std.proofs.Common.{◌≡◌, ℕ, zero, suc, ◌+◌, ◌-◌, ◌<◌, ◌≤◌, List, [], ◌∷◌, ◌++◌, map, length, get_or, take, set, sym, refl, ap, ◌∙◌, arith, take-take}
+use Rattle.std.proofs.Common.{◌≡◌, ℕ, ◌+◌, ◌-◌, ◌<◌, List, [], ◌∷◌, ◌++◌, map, length, get_or, take, set, sym, ap, ◌∙◌, arith, take-take}
 use mathlib.Core.List.{map-append}
 use lib.Seq.{take-set-lt}
 use Rattle.std.proofs.lemmas.List.{length-take-le, take_more_set, length-map, take-map, map-set, get_or-map, get_or-take}
 use Rattle.chart.specs.declared.entry.Entry.{Entry}
 use Rattle.chart.specs.declared.entries.Entries.{Entries}
-use Rattle.chart.specs.Model.{State, state, bits_of, but_last}
+use Rattle.chart.specs.Model.{state, bits_of, but_last}
 
 -- as many as are in use
 pub size : (e : Entries) → length (state e).entries ≡ e.count

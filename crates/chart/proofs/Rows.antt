@@ -1,5 +1,5 @@
 -- One rule more in a span. Assumes nothing.
-use Rattle.std.proofs.Common.{◌≡◌, ℕ, zero, suc, ◌+◌, ◌-◌, ◌<◌, ◌≤◌, Bool, true, false, cond, eqb, ◌≢◌, ◌⊎◌, List, length, get_or, set, Some, None, Option, sym, refl, ap, ◌∙◌, subst, ap₂, inl, inr, arith, eq-eqb, ne_eqb}
+use Rattle.std.proofs.Common.{◌≡◌, ℕ, ◌+◌, ◌-◌, ◌<◌, cond, ◌≢◌, List, length, Some, None, Option, sym, refl, ap, ◌∙◌, subst, ap₂, inl, inr, arith, eq-eqb, ne_eqb}
 use Rattle.std.proofs.lemmas.List.{get_or-set_same, get_or-set_other}
 use Rattle.std.proofs.lemmas.Bool.{cases_eq}
 use Rattle.semiring.specs.Semirings.{Operations, Laws, sum_below}
@@ -11,7 +11,7 @@ use Rattle.grammar.specs.Spans.{cut_term, share, rule_share, shares}
 use Rattle.semiring.proofs.Sums.{sum_more, sum_none, sum_same}
 use Rattle.chart.specs.Cells.{place, cell_at, added, Room, Names}
 use Rattle.chart.specs.Columns.{with_rule, Row}
-use Rattle.chart.proofs.Places.{place_narrow, place_later, place_from, place_after, inside}
+use Rattle.chart.proofs.Places.{place_narrow, place_from, place_after, inside}
 use Rattle.chart.proofs.Adding.{other_cell}
 
 -- the names of a declared expansion

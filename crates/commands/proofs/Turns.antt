@@ -1,5 +1,5 @@
 -- One command more is read. Assumes nothing.
-use Rattle.std.proofs.Common.{◌≡◌, ℕ, ◌+◌, ◌-◌, ◌<◌, ◌≤◌, true, false, ◌⊎◌, List, [], ◌∷◌, ◌++◌, length, drop, Some, None, Ok, Err, Option, Result, sym, refl, ap, ◌∙◌, subst, inl, inr, append_assoc, append-nil, arith, length-append, length-drop, drop_of_length-le, MatchOption}
+use Rattle.std.proofs.Common.{◌≡◌, ℕ, ◌<◌, ◌≤◌, true, false, ◌⊎◌, List, [], ◌∷◌, ◌++◌, length, drop, Some, None, Ok, Err, Option, Result, sym, refl, ap, ◌∙◌, subst, inl, inr, append_assoc, append-nil, arith, length-append, length-drop, drop_of_length-le, MatchOption}
 use lib.Seq.{drop-append_seam}
 use Rattle.std.proofs.lemmas.Bool.{both_ways, true≢false, not-true, and_parts, eqb-true, eqb-false}
 use Rattle.commands.specs.declared.command.Command.{Command}

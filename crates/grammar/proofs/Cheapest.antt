@@ -1,16 +1,16 @@
 -- Totals in the cost semiring are least costs, and derivations stay below none. Assumes nothing.
-use Rattle.std.proofs.Common.{◌≡◌, ℕ, zero, suc, ◌+◌, ◌-◌, ◌*◌, ◌^◌, ◌<◌, ◌≤◌, min, ◌⊎◌, List, [], ◌∷◌, map, length, Some, None, Option, sym, refl, ap, ◌∙◌, subst, ap₂, inl, inr, ⊎_elim, arith}
-use native.Mathlib.Nat.{min-eq_left, min-eq_right}
+use Rattle.std.proofs.Common.{◌≡◌, ℕ, ◌+◌, ◌-◌, ◌*◌, ◌<◌, ◌≤◌, min, ◌⊎◌, List, [], ◌∷◌, map, length, Some, sym, refl, ap, ◌∙◌, subst, inl, inr, ⊎_elim, arith}
+use native.Mathlib.Nat.{min-eq_left}
 use native.Mathlib.Decide.{dec_le}
 use Rattle.grammar.specs.declared.rule.Rule.{Rule}
 use Rattle.semiring.specs.declared.cost.Cost.{Cost}
-use Rattle.semiring.specs.Semirings.{Operations, Laws, sum}
+use Rattle.semiring.specs.Semirings.{sum}
 use Rattle.semiring.specs.Costs.{cost, none}
 use Rattle.grammar.specs.Grammars.{Meaning, Shown}
 use Rattle.grammar.specs.Derivations.{Tree, leaf, node, leaf_rule, pair_rule, Derives, DerivesEntries, leaves}
-use Rattle.grammar.specs.Totals.{Member, NoRepeats, TotalOf, weighed, weight_of}
+use Rattle.grammar.specs.Totals.{Member, TotalOf, weighed, weight_of}
 use Rattle.grammar.specs.Costs.{by_cost, cost_of, Least}
-use Rattle.grammar.proofs.Shapes.{some_leaf, entries_length}
+use Rattle.grammar.proofs.Shapes.{entries_length}
 
 module _ {X : Type 0} (w : X → Cost) where
   sum_below_le : (xs : List X) (x : X) → Member x xs → (sum cost (map w xs)).value ≤ (w x).value

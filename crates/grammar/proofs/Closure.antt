@@ -1,8 +1,8 @@
 -- How totals are made of totals. Assumes nothing.
-use Rattle.std.proofs.Common.{◌≡◌, ℕ, zero, suc, ◌<◌, ◌≤◌, ◌⊎◌, List, [], ◌∷◌, ◌++◌, map, sym, refl, ap, ◌∙◌, subst, ap₂, inl, inr, ⊎_elim, eq-or-lt_of_le, arith}
+use Rattle.std.proofs.Common.{◌≡◌, ℕ, zero, suc, ◌<◌, ◌⊎◌, List, [], ◌∷◌, ◌++◌, map, sym, refl, ap, ◌∙◌, subst, ap₂, inl, inr, ⊎_elim, eq-or-lt_of_le, arith}
 use mathlib.Core.List.{map-append}
 use Rattle.semiring.specs.Semirings.{Operations, Laws, sum, sum_below}
-use Rattle.grammar.specs.Totals.{Member, NoRepeats, TotalOf}
+use Rattle.grammar.specs.Totals.{Member, TotalOf}
 use Rattle.grammar.proofs.Lists.{member_left, member_right, member_cases, once_append, map_member, member_map, once_map, products, products_member, member_products, once_products}
 
 module _ {S : Type 0} {s : Operations S} (laws : Laws s) where

@@ -1,10 +1,9 @@
 -- What a derivation of entries looks like at its root. Assumes nothing.
-use Rattle.std.proofs.Common.{◌≡◌, ℕ, zero, suc, ◌+◌, ◌-◌, ◌<◌, ◌≤◌, Bool, true, false, cond, ◌⊎◌, List, [], ◌∷◌, ◌++◌, map, length, take, drop, Some, None, Option, sym, refl, ap, ◌∙◌, subst, ap₂, inl, inr, ⊎_elim, arith, length-append, length-drop, take-append-drop, length-take}
-use Rattle.grammar.specs.declared.rule.Expansion.{Expansion}
+use Rattle.std.proofs.Common.{◌≡◌, ℕ, suc, ◌+◌, ◌-◌, ◌<◌, ◌≤◌, List, [], ◌∷◌, ◌++◌, length, take, drop, Some, sym, refl, ap, ◌∙◌, subst, ap₂, arith, length-append, take-append-drop}
 use Rattle.grammar.specs.declared.rule.Expansion.TheVariants.{Pair, Leaf}
 use Rattle.grammar.specs.declared.rule.Rule.{Rule}
 use Rattle.grammar.specs.Grammars.{Meaning}
-use Rattle.grammar.specs.Derivations.{Tree, leaf, node, leaf_rule, pair_rule, ByLeaf, ByPair, Derives, Fits, DerivesEntries, leaves}
+use Rattle.grammar.specs.Derivations.{Tree, leaf, node, leaf_rule, pair_rule, ByLeaf, Derives, Fits, DerivesEntries, leaves}
 
 -- the rule number at the root
 abbrev pub root : Tree → ℕ

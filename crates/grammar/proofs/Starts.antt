@@ -1,5 +1,5 @@
 -- The total over all starts. Assumes nothing.
-use Rattle.std.proofs.Common.{◌≡◌, ℕ, ◌<◌, Bool, true, false, cond, List, Some, sym, refl, ap, ◌∙◌, subst, ap₂}
+use Rattle.std.proofs.Common.{◌≡◌, ℕ, ◌<◌, Bool, true, false, cond, List, refl}
 use Rattle.grammar.specs.declared.rule.Rule.{Rule}
 use Rattle.semiring.specs.Semirings.{Operations, Laws}
 use Rattle.grammar.specs.Grammars.{Meaning, Shown}
@@ -8,7 +8,7 @@ use Rattle.grammar.specs.Totals.{TotalOf, weight_of}
 use Rattle.grammar.specs.Spans.{start_sum}
 use Rattle.grammar.proofs.Truths.{not_both}
 use Rattle.grammar.proofs.Closure.{total_none, total_same, total_below}
-use Rattle.grammar.proofs.Shapes.{root, root_rule}
+use Rattle.grammar.proofs.Shapes.{root_rule}
 
 -- a tree is a derivation from one nonterminal only
 pub one_start : (m : Meaning) (A B : ℕ) (es es' : List ℕ) (t : Tree) → DerivesEntries m A es t → DerivesEntries m B es' t → A ≡ B

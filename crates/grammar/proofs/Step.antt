@@ -1,15 +1,15 @@
 -- If what stands for every narrower span is its total, the sum over rules and cuts is the total. Assumes nothing.
-use Rattle.std.proofs.Common.{◌≡◌, ℕ, zero, suc, ◌+◌, ◌-◌, ◌<◌, ◌≤◌, min, Bool, true, false, cond, eqb, ◌⊎◌, List, [], ◌∷◌, ◌++◌, map, length, take, drop, Some, None, Option, sym, refl, ap, ◌∙◌, subst, ap₂, inl, inr, ⊎_elim, arith, eqb→eq, length-append, length-drop, take-append-drop, length-take, eq-eqb}
+use Rattle.std.proofs.Common.{◌≡◌, ℕ, suc, ◌-◌, ◌<◌, Bool, true, false, cond, eqb, List, [], ◌∷◌, length, take, drop, Some, None, Option, sym, refl, ap, ◌∙◌, subst, arith, eqb→eq, length-take, eq-eqb}
 use Rattle.grammar.specs.declared.rule.Expansion.{Expansion}
 use Rattle.grammar.specs.declared.rule.Expansion.TheVariants.{Pair, Leaf}
 use Rattle.grammar.specs.declared.rule.Rule.{Rule}
-use Rattle.semiring.specs.Semirings.{Operations, Laws, sum, sum_below}
+use Rattle.semiring.specs.Semirings.{Operations, Laws}
 use Rattle.grammar.specs.Grammars.{Meaning, Shown, Declared}
 use Rattle.grammar.specs.Derivations.{Tree, leaf, node, has, Fits, DerivesEntries, leaves}
 use Rattle.grammar.specs.Totals.{TotalOf, weighed, weight_of}
 use Rattle.grammar.proofs.Terms.{leaf_term, expansion_term, rule_term, cell_sum}
 use Rattle.grammar.proofs.Truths.{true_of, not_both}
-use Rattle.grammar.proofs.Closure.{total_none, total_one, total_same, total_value, total_or, total_below, total_product}
+use Rattle.grammar.proofs.Closure.{total_none, total_one, total_same, total_value, total_below, total_product}
 use Rattle.grammar.proofs.Shapes.{root, entries_length, root_rule, leaf_shape, leaf_made, node_shape, node_made}
 
 node_apart : (i : ℕ) (l l' r r' : Tree) → node i l r ≡ node i l' r' → (l ≡ l') × (r ≡ r')

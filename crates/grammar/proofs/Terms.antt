@@ -1,5 +1,5 @@
 -- The sum over rules and cuts for a list of entries, from what stands for its first parts and its rests. Assumes nothing.
-use Rattle.std.proofs.Common.{ℕ, suc, ◌-◌, Bool, cond, eqb, List, [], ◌∷◌, length, Some, None, Option}
+use Rattle.std.proofs.Common.{ℕ, suc, ◌-◌, cond, eqb, List, [], ◌∷◌, length, Some, None, Option}
 use Rattle.semiring.specs.Semirings.{Operations, sum_below}
 use Rattle.grammar.specs.declared.rule.Expansion.{Expansion}
 use Rattle.grammar.specs.declared.rule.Expansion.TheVariants.{Pair, Leaf}

@@ -1,5 +1,5 @@
 -- No two values are the total of the same. Assumes nothing.
-use Rattle.std.proofs.Common.{◌≡◌, ◌⊎◌, List, [], ◌∷◌, ◌++◌, map, sym, refl, ap, ◌∙◌, subst, ap₂, inl, inr, ⊎_elim}
+use Rattle.std.proofs.Common.{◌≡◌, ◌⊎◌, List, [], ◌∷◌, map, sym, refl, ap, ◌∙◌, subst, inl, inr, ⊎_elim}
 use Rattle.semiring.specs.Semirings.{Operations, Laws, sum}
 use Rattle.grammar.specs.Totals.{Member, NoRepeats, TotalOf}
 

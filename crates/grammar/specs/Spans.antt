@@ -1,5 +1,5 @@
 -- Cells, one for each span of entries and nonterminal: what each rule adds to a cell, and what it is for cells to be filled, and to stand. Assumes nothing.
-use Rattle.std.specs.Prelude.{◌≡◌, ℕ, zero, suc, ◌+◌, ◌-◌, ◌<◌, ◌≤◌, Bool, cond, ◌&&◌, List, length, Some, None, Option, ◌==◌, slice_index, slice_range}
+use Rattle.std.specs.Prelude.{◌≡◌, ℕ, zero, suc, ◌+◌, ◌-◌, ◌<◌, ◌≤◌, cond, ◌&&◌, List, length, Some, None, Option, ◌==◌, slice_index, slice_range}
 use Rattle.semiring.specs.Semirings.{Operations, sum_below}
 use Rattle.grammar.specs.declared.rule.Expansion.{Expansion}
 use Rattle.grammar.specs.declared.rule.Expansion.TheVariants.{Pair, Leaf}

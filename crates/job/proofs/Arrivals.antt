@@ -1,5 +1,5 @@
 -- What a job comes to that is taken. Assumes nothing.
-use Rattle.std.proofs.Common.{◌≡◌, ℕ, ◌≤◌, List, map, length, take, Some, None, Option, sym, refl, ap, ◌∙◌, subst, arith}
+use Rattle.std.proofs.Common.{ℕ, List, map, take, Some, None, Option, sym, subst, arith}
 use Rattle.std.proofs.lemmas.List.{length-take-le, length-map}
 use Rattle.table.specs.declared.draft.Draft.{Draft}
 use Rattle.table.specs.Tables.{as_added}
@@ -13,7 +13,7 @@ use Rattle.job.specs.declared.description.Description.{Description}
 use Rattle.job.specs.Held.{recorder_in, held}
 use Rattle.answer.specs.declared.report.Report.{Report}
 use Rattle.job.specs.Appending.{appended}
-use Rattle.job.specs.Describing.{Described, stack, nonterminals_of, codes_of}
+use Rattle.job.specs.Describing.{Described, stack, nonterminals_of}
 use Rattle.job.specs.Outcomes.{Takes}
 use Rattle.job.specs.Reports.{accepted, Comes}
 use Rattle.job.specs.Answers.{Reads}

@@ -1,5 +1,5 @@
 -- The derivations of a job's grammar match the ways to read its entries one for one. Assumes nothing.
-use Rattle.std.proofs.Common.{◌≡◌, ℕ, ◌+◌, ◌/◌, ◌≤◌, ◌⊎◌, List, [], ◌∷◌, ◌++◌, Some, None, Option, sym, refl, ap, ◌∙◌, subst, inl, inr, arith}
+use Rattle.std.proofs.Common.{◌≡◌, ℕ, ◌+◌, ◌/◌, List, [], ◌∷◌, ◌++◌, Some, None, Option, sym, refl, ap, ◌∙◌, subst, inl, inr, arith}
 use Rattle.semiring.specs.Semirings.{Operations, Laws}
 use Rattle.semiring.specs.Costs.{cost, costing}
 use Rattle.grammar.specs.declared.rule.Rule.{Rule}
@@ -28,7 +28,7 @@ use Rattle.job.specs.Describing.{Described, recorded, stack}
 use Rattle.job.specs.Reports.{Drawn}
 use Rattle.job.specs.Answers.{Renames, Stacks}
 use Rattle.job.proofs.Sizes.{Records}
-use Rattle.job.specs.Ways.{Way, Allows, AsRead, ReadsEntries, OverWays, cost_in, CheapestWay, DrawnWay}
+use Rattle.job.specs.Ways.{Way, Allows, AsRead, ReadsEntries, OverWays, cost_in, DrawnWay}
 
 -- the word of a rule into a code
 abbrev code_in : Expansion → List ℕ

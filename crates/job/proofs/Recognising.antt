@@ -1,5 +1,5 @@
 -- Whether entries have a derivation, by the least cost of one. Assumes nothing.
-use Rattle.std.proofs.Common.{◌≡◌, ℕ, ◌<◌, ◌≤◌, Bool, true, false, not, ◌||◌, eqb, List, [], ◌∷◌, map, length, sym, refl, ap, ◌∙◌, subst, ap₂, inl, inr, arith, ne_eqb}
+use Rattle.std.proofs.Common.{◌≡◌, ℕ, ◌≤◌, Bool, not, ◌||◌, eqb, List, [], ◌∷◌, map, length, sym, refl, ap, ◌∙◌, ap₂, inl, arith, ne_eqb}
 use Rattle.semiring.specs.declared.cost.Cost.{Cost}
 use Rattle.semiring.specs.Semirings.{sum}
 use Rattle.semiring.specs.YesNos.{yes_no, of_bool}

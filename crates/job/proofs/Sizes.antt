@@ -1,16 +1,16 @@
 -- The layers of a job's grammar are never refused, and how many nonterminals and codes it has. Assumes nothing.
-use Rattle.std.proofs.Common.{◌≡◌, ℕ, ◌*◌, ◌≤◌, Bool, true, false, cond, ◌&&◌, ltb, leb, List, [], ◌∷◌, length, Some, None, Option, sym, refl, ap, ◌∙◌, subst, arith, ltb-false, le-ltb, le-leb, leb-true}
+use Rattle.std.proofs.Common.{◌≡◌, ℕ, ◌*◌, ◌≤◌, Bool, true, false, cond, ◌&&◌, leb, List, [], ◌∷◌, length, Some, None, Option, sym, refl, ap, ◌∙◌, subst, arith, ltb-false, le-ltb, le-leb}
 use Rattle.std.proofs.lemmas.Nat.{mul-le}
-use Rattle.std.proofs.lemmas.Bool.{true≢false, and_parts}
+use Rattle.std.proofs.lemmas.Bool.{and_parts}
 use Rattle.grammar.specs.declared.refusal.Refusal.{Refusal}
 use Rattle.grammar.specs.declared.refusal.Refusal.TheVariants.{FewerCodes, TooLarge}
 use Rattle.grammar.specs.Grammars.{Meaning}
 use Rattle.table.specs.Drafts.{sealed}
 use Rattle.automata.specs.Machines.{Machine, Working}
-use Rattle.automata.specs.Making.{if_refused, unless_in_range, table_refused, table_made, staying, written, write_refused}
+use Rattle.automata.specs.Making.{if_refused, unless_in_range, table_refused, table_made, staying, written}
 use Rattle.layers.specs.Ban.{ban}
 use Rattle.layers.specs.Intersection.{blank, crossing, intersection, intersection_refused}
-use Rattle.layers.specs.Renaming.{Recorder, Recording, renamed, renaming, renaming_refused}
+use Rattle.layers.specs.Renaming.{Recorder, Recording, renamed}
 use Rattle.commands.specs.declared.command.Command.{Command}
 use Rattle.commands.specs.declared.command.Command.TheVariants.{Grammar, Pair, Leaf, Ban, Automaton, Step, Renaming, Reading, Entry, End}
 use Rattle.job.specs.Describing.{Described, nothing, stack, recorded, or_else, codes_over, nonterminals_of, codes_of, refusal, taken, describe, Passes}

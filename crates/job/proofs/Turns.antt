@@ -1,5 +1,5 @@
 -- One command more is read and taken, or the job is faulted. Assumes nothing.
-use Rattle.std.proofs.Common.{◌≡◌, ℕ, ◌<◌, ◌≤◌, true, false, not, ◌⊎◌, List, [], ◌∷◌, ◌++◌, length, Some, None, sym, refl, ap, ◌∙◌, subst, inl, inr, append_assoc, arith}
+use Rattle.std.proofs.Common.{◌≡◌, ℕ, ◌<◌, ◌≤◌, true, not, ◌⊎◌, List, [], ◌∷◌, ◌++◌, length, Some, None, sym, refl, ap, ◌∙◌, inl, inr, append_assoc}
 use Rattle.std.proofs.lemmas.Bool.{true≢false}
 use Rattle.grammar.specs.declared.refusal.Refusal.{Refusal}
 use Rattle.commands.specs.declared.command.Command.{Command}
@@ -13,7 +13,7 @@ use Rattle.commands.specs.Readers.{left, Halted, Stopped, HasRead}
 use Rattle.commands.proofs.Turns.{halted}
 use Rattle.commands.proofs.Unique.{encodes_push}
 use Rattle.job.specs.Describing.{Described, Later, nothing, refusal, taken, describe, Passes}
-use Rattle.job.specs.Outcomes.{Refuses, FirstFault}
+use Rattle.job.specs.Outcomes.{FirstFault}
 use Rattle.job.specs.Loading.{input_of, Loading}
 
 pub describe_push : (d : Described) (cs : List Command) (c : Command) → describe d (cs ++ (c ∷ [])) ≡ taken (describe d cs) c

@@ -7,7 +7,7 @@ use Rattle.grammar.specs.declared.rule.Expansion.TheVariants.{Pair as IntoPair, 
 use Rattle.grammar.specs.Grammars.{Meaning}
 use Rattle.table.specs.Drafts.{Drafted, fresh, out_of_range, refusal_of, with_added, sealed}
 use Rattle.automata.specs.Machines.{Machine}
-use Rattle.automata.specs.Making.{staying, table_refused, table_made, write_refused, written_to}
+use Rattle.automata.specs.Making.{table_refused, table_made, write_refused, written_to}
 use Rattle.layers.specs.Ban.{add_refused, added, ban}
 use Rattle.layers.specs.Intersection.{intersection}
 use Rattle.layers.specs.Renaming.{Recorder, readings_refused, readings_made, read_refused, reading_to, renaming}

@@ -2,7 +2,7 @@
 use Rattle.std.proofs.Common.{◌≡◌, ℕ, Bool, true, false, cond, List, Some, None, Option, refl, ap, ◌∙◌, arith}
 use Rattle.grammar.specs.declared.rule.Rule.{Rule}
 use Rattle.grammar.specs.Grammars.{Meaning}
-use Rattle.grammar.specs.Derivations.{Tree, leaf, node, Derives, ByLeaf, ByPair, FromStarts}
+use Rattle.grammar.specs.Derivations.{Tree, leaf, node, Derives}
 use Rattle.layers.specs.Ban.{ban, among, Free}
 use Rattle.layers.specs.Matching.{OneForOne, PassesThrough}
 use Rattle.layers.specs.Promises.{BanMatches}

@@ -1,11 +1,11 @@
 -- What a grammar crossed with an automaton derives. Assumes nothing.
-use Rattle.std.proofs.Common.{◌≡◌, ℕ, ◌+◌, ◌*◌, ◌/◌, ◌%◌, ◌<◌, Bool, true, false, cond, ◌&&◌, eqb, List, [], ◌∷◌, ◌++◌, Some, None, Option, sym, refl, ap, ◌∙◌, subst, ap₂, mod-lt, arith, eq-eqb, eqb-true}
+use Rattle.std.proofs.Common.{◌≡◌, ℕ, ◌/◌, ◌%◌, ◌<◌, Bool, true, cond, eqb, List, [], ◌∷◌, ◌++◌, Some, None, Option, sym, refl, ap, ◌∙◌, subst, ap₂, mod-lt, arith, eq-eqb, eqb-true}
 use Rattle.grammar.specs.declared.rule.Rule.{Rule}
 use Rattle.grammar.specs.declared.rule.Expansion.{Expansion}
 use Rattle.grammar.specs.declared.rule.Expansion.TheVariants.{Pair, Leaf}
 use Rattle.grammar.specs.declared.refusal.Refusal.{Refusal}
 use Rattle.grammar.specs.Grammars.{Meaning}
-use Rattle.grammar.specs.Derivations.{Tree, leaf, node, leaf_rule, pair_rule, Derives, ByLeaf, ByPair, FromStarts}
+use Rattle.grammar.specs.Derivations.{Tree, leaf, node, leaf_rule, pair_rule, Derives, FromStarts}
 use Rattle.automata.specs.Machines.{Machine, Working, onwards, run, Accepted}
 use Rattle.automata.specs.Making.{if_refused}
 use Rattle.automata.specs.Laws.Truths.{and_left, and_right, and_both, some_is}

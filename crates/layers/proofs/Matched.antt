@@ -1,5 +1,5 @@
 -- Matches in general: what passes through weighs the same, and matches can be put together. Assumes nothing.
-use Rattle.std.proofs.Common.{◌≡◌, ℕ, List, Some, sym, refl, ap, ◌∙◌, subst, ap₂}
+use Rattle.std.proofs.Common.{◌≡◌, ℕ, List, Some, sym, refl, ap, ◌∙◌, ap₂}
 use Rattle.semiring.specs.Semirings.{Operations, Laws}
 use Rattle.grammar.specs.declared.rule.Rule.{Rule}
 use Rattle.grammar.specs.Grammars.{Meaning}

@@ -6,7 +6,7 @@ use Rattle.grammar.specs.declared.rule.Rule.{Rule}
 use Rattle.grammar.specs.declared.rule.Expansion.{Expansion}
 use Rattle.grammar.specs.declared.rule.Expansion.TheVariants.{Pair, Leaf}
 use Rattle.grammar.specs.Grammars.{Meaning}
-use Rattle.grammar.specs.Derivations.{Tree, leaf, node, Derives, ByLeaf, ByPair, FromStarts}
+use Rattle.grammar.specs.Derivations.{Tree, leaf, node, Derives}
 use Rattle.grammar.specs.Totals.{weighed, weight_of, by}
 use Rattle.layers.specs.Reversal.{reversal, turned, turned_any, swapped, mirror}
 use Rattle.layers.specs.Matching.{OneForOne, PassesThrough}

@@ -1,19 +1,18 @@
 -- What a renamed grammar derives. Assumes nothing.
-use Rattle.std.proofs.Common.{◌≡◌, ℕ, suc, ◌+◌, ◌*◌, ◌/◌, ◌%◌, ◌<◌, Bool, true, false, cond, List, [], ◌∷◌, ◌++◌, length, Some, None, Option, sym, refl, ap, ◌∙◌, subst, ap₂, mod-lt, div-add-mod', arith}
+use Rattle.std.proofs.Common.{◌≡◌, ℕ, ◌+◌, ◌*◌, ◌/◌, ◌%◌, ◌<◌, Bool, cond, List, [], ◌∷◌, ◌++◌, length, Some, None, Option, sym, refl, ap, ◌∙◌, subst, ap₂, div-add-mod', arith}
 use lib.Arith.{digits_div, digits_mod}
 use Rattle.grammar.specs.declared.refusal.Refusal.{Refusal}
-use Rattle.grammar.specs.declared.rule.Rule.{Rule}
 use Rattle.grammar.specs.declared.rule.Expansion.{Expansion}
 use Rattle.grammar.specs.declared.rule.Expansion.TheVariants.{Pair, Leaf}
 use Rattle.grammar.specs.Grammars.{Meaning}
-use Rattle.grammar.specs.Derivations.{Tree, leaf, node, leaves, leaf_rule, pair_rule, Derives, ByLeaf, ByPair, FromStarts}
+use Rattle.grammar.specs.Derivations.{Tree, leaf, node, leaves, leaf_rule, pair_rule, Derives}
 use Rattle.grammar.proofs.Shapes.{derives_length}
 use Rattle.automata.specs.Making.{if_refused}
 use Rattle.automata.specs.Laws.Truths.{some_is}
 use Rattle.layers.specs.Intersection.{blank}
 use Rattle.layers.specs.Renaming.{Recorder, Recording, ReadAs, renamed_any, renamed, renaming, renaming_refused}
 use Rattle.layers.specs.Matching.{OneForOne, Stems, PassesThrough, divided}
-use Rattle.layers.specs.Promises.{RenamingMatches, WhenRead}
+use Rattle.layers.specs.Promises.{RenamingMatches}
 use Rattle.layers.specs.Laws.Crossed.{step_is}
 use Rattle.layers.specs.Laws.Renamed.{leaf_read, pair_read}
 

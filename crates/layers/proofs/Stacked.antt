@@ -1,15 +1,14 @@
 -- Renaming over intersection over ban, and the theorems of all layers together. Assumes nothing.
-use Rattle.std.proofs.Common.{◌≡◌, ℕ, ◌/◌, List, sym, refl, ap, ◌∙◌, subst}
+use Rattle.std.proofs.Common.{◌≡◌, ℕ, ◌/◌, List, ap, ◌∙◌, subst}
 use Rattle.semiring.specs.Semirings.{Operations, Laws}
 use Rattle.grammar.specs.Grammars.{Meaning}
 use Rattle.grammar.specs.Derivations.{Tree, Derives, FromStarts}
 use Rattle.grammar.specs.Totals.{weight_of, by}
 use Rattle.automata.specs.Machines.{Machine, Leads, Accepted}
 use Rattle.layers.specs.Ban.{ban, Free}
-use Rattle.layers.specs.Reversal.{reversal}
 use Rattle.layers.specs.Intersection.{crossed, cube, intersection}
 use Rattle.layers.specs.Renaming.{Recorder, renaming}
-use Rattle.layers.specs.Matching.{OneForOne, SameWeight, PassesThrough, renumbered, divided}
+use Rattle.layers.specs.Matching.{OneForOne, PassesThrough, divided}
 use Rattle.layers.specs.Promises.{WhenRead, StackMatches, Laid, OneForOneAll, SameWeightAll, PassesThroughAll}
 use Rattle.layers.proofs.Matched.{passing_weighs, same_weight, renumbered_same, renumbered_twice, passes_twice, composed}
 use Rattle.layers.proofs.Banned.{ban_matches, ban_passes}

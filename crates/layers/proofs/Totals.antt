@@ -1,8 +1,7 @@
 -- The known sheets, by the theorem of sums and computation. Assumes nothing.
-use Rattle.std.proofs.Common.{◌≡◌, ℕ, zero, suc, ◌<◌, ◌≤◌, Bool, true, false, cond, eqb, List, [], ◌∷◌, length, Some, None, Option, refl, subst, arith, eqb-true}
+use Rattle.std.proofs.Common.{◌≡◌, ℕ, ◌<◌, ◌≤◌, Bool, true, false, cond, eqb, List, [], ◌∷◌, length, Some, refl, arith, eqb-true}
 use Rattle.semiring.specs.Semirings.{sum_below}
 use Rattle.semiring.specs.declared.count.Count.{Count}
-use Rattle.semiring.specs.declared.cost.Cost.{Cost}
 use Rattle.semiring.specs.Counts.{count, capped}
 use Rattle.semiring.specs.Costs.{cost, costing, none}
 use Rattle.semiring.specs.CountLaws.{count_laws}
@@ -10,9 +9,9 @@ use Rattle.semiring.specs.CountLaws as counts
 use Rattle.semiring.specs.CostLaws.{cost_laws}
 use Rattle.semiring.specs.CostLaws as costs
 use Rattle.grammar.specs.declared.rule.Rule.{Rule}
-use Rattle.grammar.specs.Grammars.{Meaning, Shown, ShownRule}
-use Rattle.grammar.specs.Derivations.{has, leaf_rule, pair_rule}
-use Rattle.grammar.specs.Totals.{TotalOf, weight_of, by}
+use Rattle.grammar.specs.Grammars.{Meaning, Shown}
+use Rattle.grammar.specs.Derivations.{has}
+use Rattle.grammar.specs.Totals.{by}
 use Rattle.grammar.specs.Spans.{inside, start_sum}
 use Rattle.grammar.specs.Costs.{by_cost}
 use Rattle.grammar.proofs.Closure.{total_value}
@@ -22,7 +21,7 @@ use Rattle.automata.specs.Making.{counting}
 use Rattle.automata.specs.Laws.Machined.{counting_works}
 use Rattle.automata.specs.Laws.Truths.{no_some, some_is}
 use Rattle.layers.specs.Renaming.{Recorder, Recording, unread, reading}
-use Rattle.layers.specs.Known.{known_rule, G, known_readings, Sheet, KnownSheets}
+use Rattle.layers.specs.Known.{G, known_readings, Sheet, KnownSheets}
 use Rattle.layers.specs.Laws.Wide.{wide_shown}
 use Rattle.layers.specs.Laws.Kept.{ban_shown}
 use Rattle.layers.specs.Laws.Crossed.{intersection_shown}

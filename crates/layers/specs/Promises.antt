@@ -2,7 +2,7 @@
 use Rattle.std.specs.Prelude.{◌≡◌, ℕ, ◌/◌, ◌<◌, List, reverse, None}
 use Rattle.semiring.specs.Semirings.{Operations, Commutes}
 use Rattle.grammar.specs.Grammars.{Meaning}
-use Rattle.grammar.specs.Derivations.{Tree, Derives, FromStarts}
+use Rattle.grammar.specs.Derivations.{Derives, FromStarts}
 use Rattle.automata.specs.Machines.{Machine, Working, Leads, Accepted}
 use Rattle.layers.specs.Ban.{ban, Free}
 use Rattle.layers.specs.Reversal.{reversal, mirror}

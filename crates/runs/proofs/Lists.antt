@@ -1,5 +1,5 @@
 -- One call more of a list. Assumes nothing.
-use Rattle.std.proofs.Common.{◌≡◌, ℕ, zero, suc, ◌+◌, ◌<◌, ◌≤◌, Bool, true, false, cond, ltb, ◌≢◌, List, [], ◌∷◌, length, get_or, take, set, Ok, Result, sym, refl, ap, ◌∙◌, subst, le_of_suc-le-suc, not-suc-le-zero, add-one, arith, take_all, get_or-set_other, get_or-set_same, below_more, ltb-false, ltb-true}
+use Rattle.std.proofs.Common.{◌≡◌, ℕ, zero, suc, ◌+◌, ◌<◌, ◌≤◌, Bool, true, false, cond, ltb, ◌≢◌, List, [], ◌∷◌, length, get_or, take, set, Ok, Result, refl, ap, le_of_suc-le-suc, not-suc-le-zero, add-one, arith, take_all, get_or-set_other, get_or-set_same, below_more, ltb-false, ltb-true}
 use Rattle.grammar.specs.declared.refusal.Refusal.{Refusal}
 use Rattle.chart.specs.declared.call.Call.{Call}
 use Rattle.chart.specs.Model.{Terms, State, answer, step}

@@ -1,5 +1,5 @@
 -- What the tree call answers, in the words of derivations. Assumes nothing.
-use Rattle.std.proofs.Common.{◌≡◌, ℕ, ◌-◌, ◌*◌, ◌<◌, Bool, true, false, cond, eqb, leb, ◌⊎◌, List, length, take, drop, IfOk, Ok, Err, Result, sym, refl, ap, ◌∙◌, subst, inl, inr, arith, eq-eqb, leb-false, MatchResult}
+use Rattle.std.proofs.Common.{◌≡◌, ℕ, ◌-◌, ◌*◌, Bool, true, false, cond, eqb, leb, List, length, take, IfOk, Ok, Err, Result, sym, refl, ap, ◌∙◌, subst, inl, inr, eq-eqb, leb-false, MatchResult}
 use Rattle.semiring.specs.declared.cost.Cost.{Cost}
 use Rattle.semiring.specs.Costs.{cost, none}
 use Rattle.grammar.specs.declared.refusal.Refusal.{Refusal}
@@ -7,12 +7,12 @@ use Rattle.grammar.specs.declared.refusal.Refusal.TheVariants.{NoDerivation, Few
 use Rattle.grammar.specs.Grammars.{Meaning}
 use Rattle.chart.specs.declared.entries.Entries.{Entries}
 use Rattle.chart.specs.Model.{state}
-use Rattle.chart.specs.Reads.{whole_total, total_answer}
+use Rattle.chart.specs.Reads.{whole_total}
 use Rattle.chart.proofs.Listing.{size}
 use Rattle.tree.specs.declared.record.Record.{Record}
 use Rattle.tree.specs.Trees.{nodes_answer, tree_answer, chart_answer, Cheapest}
 use Rattle.grammar.specs.Costs.{by_cost}
-use Rattle.runs.specs.Trees.{CheapestRecords, RefusedFor, TreeAfter}
+use Rattle.runs.specs.Trees.{CheapestRecords, RefusedFor}
 
 -- the number of nodes, or why not
 nodes_answer_lem : (total : Cost) (n room : ℕ) → MatchResult (nodes_answer total n room) (λ k. k ≡ 2 * n - 1) (RefusedFor n room)

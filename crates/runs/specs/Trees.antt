@@ -1,5 +1,5 @@
 -- What the tree call leaves after a list of calls, in the words of derivations alone. Assumes nothing.
-use Rattle.std.specs.Prelude.{◌≡◌, ℕ, ◌-◌, ◌*◌, ◌<◌, ◌⊎◌, List, length, take, drop, IfOk, Ok, Err, Result, MatchResult}
+use Rattle.std.specs.Prelude.{◌≡◌, ℕ, ◌-◌, ◌*◌, ◌<◌, ◌⊎◌, List, length, take, drop, IfOk, Err, Result, MatchResult}
 use Rattle.grammar.specs.declared.refusal.Refusal.{Refusal}
 use Rattle.grammar.specs.declared.refusal.Refusal.TheVariants.{NoDerivation, FewRecords}
 use Rattle.grammar.specs.Grammars.{Meaning}

@@ -5,8 +5,8 @@ ghost use Rattle.chart.specs.Model.{ChartStands};
 ghost use Rattle.runs.specs.Runs.{run, noted, answers as all_answers};
 
 use crate::perform::{begin, perform};
-use chart::chart::Chart;
 use chart::call::Call;
+use chart::chart::Chart;
 use chart::trial::Trial;
 use grammar::grammar::Grammar;
 use grammar::refusal::Refusal;

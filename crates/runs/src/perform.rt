@@ -5,8 +5,8 @@ ghost use Rattle.chart.specs.declared.call.Call.{Call};
 ghost use Rattle.chart.specs.Model.{Terms, terms, state, Did};
 ghost use Rattle.chart.specs.Model.{ChartStands};
 
-use chart::chart::Chart;
 use chart::call::Call;
+use chart::chart::Chart;
 use chart::trial::Trial;
 use grammar::grammar::Grammar;
 use grammar::refusal::Refusal;

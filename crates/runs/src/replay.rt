@@ -13,8 +13,8 @@ ghost use Rattle.runs.specs.Trees.{TreeAfter};
 
 use crate::calls::run_calls;
 use crate::perform::settle;
-use chart::chart::Chart;
 use chart::call::Call;
+use chart::chart::Chart;
 use chart::trial::Trial;
 use grammar::grammar::Grammar;
 use grammar::refusal::Refusal;

@@ -1,5 +1,5 @@
 -- The cost semiring. Assumes nothing.
-use Rattle.std.specs.Prelude.{ℕ, ◌+◌, ◌-◌, ◌^◌, ◌<◌, min}
+use Rattle.std.specs.Prelude.{ℕ, ◌+◌, ◌-◌, ◌^◌, min}
 use Rattle.std.proofs.Common.{arith}
 use Rattle.semiring.specs.Semirings.{Operations}
 use Rattle.semiring.specs.declared.cost.Cost.{Cost}

@@ -1,6 +1,6 @@
 -- What the tree call answers, from the total. Assumes nothing.
-use Rattle.std.proofs.Common.{◌≡◌, ℕ, zero, suc, ◌+◌, ◌-◌, ◌*◌, ◌<◌, ◌≤◌, Bool, true, false, cond, eqb, leb, ◌≢◌, ◌⊎◌, List, length, Some, Ok, Err, Result, sym, refl, ap, ◌∙◌, subst, ap₂, inl, inr, arith, eqb→eq, leb→le, eq-eqb, ne_eqb}
-use Rattle.std.proofs.lemmas.Bool.{cond-true, cond-false}
+use Rattle.std.proofs.Common.{◌≡◌, ℕ, zero, suc, ◌-◌, ◌*◌, ◌<◌, ◌≤◌, Bool, true, false, cond, eqb, leb, ◌≢◌, ◌⊎◌, List, length, Some, Ok, Err, Result, sym, refl, ap, ◌∙◌, subst, inl, inr, arith, eqb→eq, leb→le, eq-eqb}
+use Rattle.std.proofs.lemmas.Bool.{cond-true}
 use Rattle.semiring.specs.Semirings.{Operations}
 use Rattle.semiring.specs.declared.cost.Cost.{Cost}
 use Rattle.semiring.specs.Costs.{cost, costing, none}
@@ -11,7 +11,7 @@ use Rattle.grammar.specs.declared.rule.Rule.{Rule}
 use Rattle.grammar.specs.Grammars.{Meaning, Shown}
 use Rattle.grammar.specs.Derivations.{Tree, EntriesFromStarts}
 use Rattle.grammar.specs.Totals.{TotalOf, weight_of, by}
-use Rattle.grammar.specs.Spans.{start_sum, Filled, Stands}
+use Rattle.grammar.specs.Spans.{start_sum, Filled}
 use Rattle.grammar.specs.Costs.{cost_of}
 use Rattle.grammar.proofs.Truths.{true_of, not_both}
 use Rattle.grammar.proofs.Cheapest.{total_least, below_none}

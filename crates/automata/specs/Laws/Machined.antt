@@ -1,7 +1,7 @@
 -- Both kinds of automata work. Assumes nothing.
-use Rattle.std.specs.Prelude.{◌≡◌, ℕ, zero, suc, ◌+◌, ◌*◌, ◌/◌, ◌%◌, ◌^◌, ◌<◌, ◌≤◌, Bool, true, false, cond, ◌&&◌, ltb, ◌≢◌, List, [], ◌∷◌, length, Some, None, Option, ◌==◌, nat_le, nat_lt, slice_index, slice_index_or, slice_set, refl}
-use Rattle.std.proofs.Common.{sym, ap, subst, ◌∙◌, arith, get_or-set_same, get_or-set_other, leb-true, ltb-true, eqb-true, eq-eqb, le-leb, lt-ltb}
-use Rattle.automata.specs.Machines.{Machine, Within, Working}
+use Rattle.std.specs.Prelude.{◌≡◌, ℕ, zero, suc, ◌+◌, ◌*◌, ◌/◌, ◌<◌, ◌≤◌, Bool, true, false, cond, ◌&&◌, ltb, ◌≢◌, List, [], ◌∷◌, length, Some, None, ◌==◌, nat_le, nat_lt, slice_index, slice_index_or, slice_set, refl}
+use Rattle.std.proofs.Common.{ap, subst, ◌∙◌, arith, get_or-set_same, get_or-set_other, leb-true, ltb-true, eqb-true, eq-eqb, le-leb, lt-ltb}
+use Rattle.automata.specs.Machines.{Working}
 use Rattle.automata.specs.Making.{counting, written, staying, stay_at}
 use Rattle.automata.specs.Held.{table}
 use Rattle.grammar.specs.Derivations.{has}

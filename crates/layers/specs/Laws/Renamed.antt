@@ -1,12 +1,12 @@
 -- The rules of a renamed grammar, and what it shows. Assumes nothing.
-use Rattle.std.specs.Prelude.{◌≡◌, ℕ, zero, suc, ◌*◌, ◌/◌, ◌%◌, ◌<◌, ◌≤◌, Bool, true, false, cond, List, [], ◌∷◌, replicate, Some, None, Option, ◌==◌, nat_le, nat_lt, slice_index_or, slice_set, refl}
+use Rattle.std.specs.Prelude.{◌≡◌, ℕ, zero, suc, ◌*◌, ◌/◌, ◌%◌, ◌<◌, Bool, true, false, cond, List, [], ◌∷◌, replicate, Some, None, Option, ◌==◌, nat_le, nat_lt, slice_index_or, slice_set, refl}
 use Rattle.std.proofs.Common.{sym, ap, subst, ◌∙◌, mod-lt, div-add-mod', arith, eqb-true, leb-true, ltb-true}
 use Rattle.std.proofs.Math.Arith.{digits_lt}
 use Rattle.grammar.specs.declared.refusal.Refusal.{Refusal}
 use Rattle.grammar.specs.declared.rule.Rule.{Rule}
 use Rattle.grammar.specs.declared.rule.Expansion.{Expansion}
 use Rattle.grammar.specs.declared.rule.Expansion.TheVariants.{Pair, Leaf}
-use Rattle.grammar.specs.Grammars.{Meaning, Shown, ShownRule, Declared}
+use Rattle.grammar.specs.Grammars.{Meaning, Shown, ShownRule}
 use Rattle.grammar.specs.Derivations.{leaf_rule, pair_rule}
 use Rattle.automata.specs.Making.{if_refused}
 use Rattle.automata.specs.Laws.Truths.{no_some, some_is, cond_some}

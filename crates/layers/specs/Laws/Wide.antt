@@ -1,5 +1,5 @@
 -- The rules of the known grammar under any number of nonterminals and any bound. Assumes nothing.
-use Rattle.std.specs.Prelude.{◌≡◌, ℕ, zero, suc, ◌<◌, ◌≤◌, Some, None, ◌==◌, refl}
+use Rattle.std.specs.Prelude.{◌≡◌, ℕ, zero, suc, ◌≤◌, Some, ◌==◌}
 use Rattle.std.proofs.Common.{subst, arith, eqb-true}
 use Rattle.grammar.specs.declared.rule.Rule.{Rule}
 use Rattle.grammar.specs.Grammars.{Meaning, Shown, ShownRule}

@@ -1,5 +1,5 @@
-use Rattle.std.proofs.Common.{◌≡◌, ℕ, ◌+◌, ◌-◌, ◌*◌, ◌<◌, ◌≤◌, length, take, drop, Ok, Err, sym, refl, ap, ◌∙◌, subst, arith, rules}
-use Rattle.semiring.specs.Costs.{cost, none}
+use Rattle.std.proofs.Common.{◌≡◌, length, take, drop, Ok, Err, sym, refl, ap, ◌∙◌, subst, arith, rules}
+use Rattle.semiring.specs.Costs.{cost}
 use Rattle.grammar.specs.Totals.{by}
 use Rattle.chart.specs.Cells.{cell_at}
 use Rattle.chart.specs.Model.{state}

@@ -1,9 +1,9 @@
 use Rattle.semiring.specs.Semirings.{sum_below}
 use Rattle.semiring.proofs.Sums.{sum_none}
 use Rattle.grammar.specs.Spans.{cut_term}
-use Rattle.std.proofs.Common.{◌≡◌, ℕ, ◌+◌, ◌-◌, ◌*◌, ◌<◌, ◌≤◌, length, get_or, set, sym, refl, ap, ◌∙◌, ap₂, mul-le-mul, arith, rules}
+use Rattle.std.proofs.Common.{◌≡◌, ◌+◌, ◌-◌, ◌<◌, length, get_or, set, sym, ap, ◌∙◌, ap₂, mul-le-mul, arith, rules}
 use Rattle.std.proofs.lemmas.List.{get_or_read}
-use Rattle.chart.specs.Cells.{Room, place, cell_at}
+use Rattle.chart.specs.Cells.{cell_at}
 use Rattle.chart.proofs.Places.{room_before, inside, place_from, place_wider, place_next, place_small}
 use Rattle.chart.proofs.Adding.{cuts_step}
 use Rattle.chart.proofs.cells.add_cuts.Goals as goal

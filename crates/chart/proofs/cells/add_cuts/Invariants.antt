@@ -1,5 +1,4 @@
 use Rattle.semiring.specs.Semirings.{sum_below}
-use Rattle.semiring.proofs.Sums.{sum_none}
 use Rattle.grammar.specs.Spans.{cut_term}
 use Rattle.std.proofs.Common.{◌≡◌, ◌+◌, ◌-◌}
 use Rattle.chart.specs.Cells.{place, cell_at}

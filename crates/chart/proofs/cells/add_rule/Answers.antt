@@ -1,4 +1,4 @@
-use Rattle.std.proofs.Common.{◌≡◌, ◌+◌, ◌-◌, Bool, true, false, cond, ◌&&◌, eqb, sym, refl, ap, ◌∙◌, ap₂, arith, ne_eqb}
+use Rattle.std.proofs.Common.{◌≡◌, ◌+◌, ◌-◌, Bool, true, false, cond, ◌&&◌, eqb, sym, refl, ap, ◌∙◌, arith, ne_eqb}
 use Rattle.semiring.specs.Semirings.{sum_below}
 use Rattle.semiring.proofs.Sums.{sum_none}
 use Rattle.grammar.specs.Derivations.{has}

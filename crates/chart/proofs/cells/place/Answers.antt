@@ -1,4 +1,4 @@
-use Rattle.std.proofs.Common.{refl, arith}
+use Rattle.std.proofs.Common.{refl}
 use Rattle.chart.specs.Cells.{place, triangle}
 use Rattle.chart.proofs.Places.{inside}
 use Rattle.chart.proofs.cells.place.Goals as goal

@@ -1,4 +1,4 @@
-use Rattle.std.proofs.Common.{◌≡◌, ◌<◌, length, sym, subst}
+use Rattle.std.proofs.Common.{◌<◌, length, sym}
 use mathlib.Core.Path.{subst⁻¹}
 use Rattle.chart.specs.Cells.{Room, Names}
 use Rattle.chart.proofs.Rows.{names_of}

@@ -1,9 +1,7 @@
-use Rattle.std.proofs.Common.{◌≡◌, ℕ, ◌+◌, ◌-◌, ◌*◌, ◌<◌, ◌≤◌, ◌⊎◌, ◌++◌, length, get_or, take, drop, replicate, sym, ap, ◌∙◌, subst, ap₂, inl, inr, arith, rules}
-use mathlib.Core.Path.{subst⁻¹}
+use Rattle.std.proofs.Common.{◌≡◌, ◌+◌, ◌-◌, ◌*◌, ◌≤◌, ◌++◌, length, get_or, take, drop, replicate, ap, ◌∙◌, ap₂, inl, inr, arith, rules}
 use borrow.Rule.Slice.PartMut.{put_mid}
 use Rattle.std.proofs.lemmas.List.{length-take, length-drop, drop-drop}
-use Rattle.chart.specs.Cells.{Room, place}
-use Rattle.chart.specs.Columns.{Cleared}
+use Rattle.chart.specs.Cells.{place}
 use Rattle.chart.proofs.Places.{column_size, column_room}
 use Rattle.chart.proofs.Wiped.{wiped_before, wiped_inside, wiped_after}
 use Rattle.chart.proofs.columns.clear_column.Goals as goal

@@ -1,7 +1,5 @@
 use Rattle.grammar.specs.Totals.{by}
-use Rattle.std.proofs.Common.{◌≡◌, ◌+◌, ◌-◌, ◌<◌, length, sym, subst, arith}
-use mathlib.Core.Path.{subst⁻¹}
-use Rattle.chart.specs.Cells.{Room}
+use Rattle.std.proofs.Common.{◌≡◌, ◌+◌, ◌-◌, subst, arith}
 use Rattle.chart.specs.Columns.{Column, Cleared}
 use Rattle.chart.proofs.ColumnSteps.{column_none, column_more, column_after}
 use Rattle.chart.proofs.columns.fill_column.Goals as goal

@@ -1,7 +1,6 @@
 use Rattle.grammar.specs.Totals.{by}
-use Rattle.std.proofs.Common.{◌≡◌, length, sym, subst, arith}
+use Rattle.std.proofs.Common.{sym, subst}
 use Rattle.chart.specs.Cells.{Room}
-use Rattle.chart.specs.Columns.{Row}
 use Rattle.chart.proofs.Rows.{row_none, row_more}
 use Rattle.chart.proofs.columns.fill_row.Goals as goal
 

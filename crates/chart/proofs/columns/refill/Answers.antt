@@ -1,7 +1,7 @@
-use Rattle.std.proofs.Common.{◌≡◌, ◌+◌, ◌-◌, ◌<◌, ◌≤◌, map, length, get_or, sym, refl, ap, ◌∙◌, subst, arith}
+use Rattle.std.proofs.Common.{◌≡◌, ◌+◌, ◌-◌, ◌<◌, map, length, get_or, sym, ap, ◌∙◌, subst, arith}
 use Rattle.grammar.specs.Totals.{by}
 use Rattle.chart.specs.Model.{bits_of}
-use Rattle.std.proofs.lemmas.List.{get_or-map, length-map}
+use Rattle.std.proofs.lemmas.List.{get_or-map}
 use Rattle.chart.specs.Cells.{Room}
 use Rattle.chart.specs.Columns.{Refilled}
 use Rattle.chart.proofs.Places.{room_before}

@@ -1,4 +1,4 @@
-use Rattle.std.proofs.Common.{◌≡◌, ℕ, [], map, Some, None, Option, sym, refl, ap, ◌∙◌, subst, inl, inr}
+use Rattle.std.proofs.Common.{◌≡◌, ℕ, [], map, Some, None, Option, sym, refl, ap, ◌∙◌, subst, inr}
 use Rattle.grammar.specs.declared.refusal.Refusal.{Refusal}
 use Rattle.table.specs.Drafts.{fresh}
 use Rattle.commands.specs.declared.command.Command.TheVariants.{Grammar}

@@ -1,7 +1,7 @@
-use Rattle.std.proofs.Common.{◌≡◌, length, take, sym, refl, ap, ◌∙◌, subst}
+use Rattle.std.proofs.Common.{take, sym, refl, subst}
 use Rattle.semiring.specs.YesNos.{yes_no}
 use Rattle.job.specs.Reports.{accepted, UnitTotal, Drawn}
-use Rattle.job.proofs.Drawing.{drawn, few_written}
+use Rattle.job.proofs.Drawing.{drawn}
 use Rattle.job.proofs.Recognising.{read_by_cost}
 use Rattle.job.proofs.asking.report.Goals as goal
 

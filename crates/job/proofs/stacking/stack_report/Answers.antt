@@ -1,4 +1,4 @@
-use Rattle.std.proofs.Common.{◌≡◌, ℕ, List, map, sym, ap, ◌∙◌, subst}
+use Rattle.std.proofs.Common.{◌≡◌, List, sym, ap, ◌∙◌, subst}
 use Rattle.grammar.specs.Grammars.{Meaning}
 use Rattle.chart.specs.declared.call.Call.{Call}
 use Rattle.automata.specs.Held.{table_machine}
@@ -6,9 +6,8 @@ use Rattle.layers.specs.Held.{banned, recorder}
 use Rattle.layers.specs.Intersection.{intersection}
 use Rattle.layers.specs.Renaming.{renaming}
 use Rattle.answer.specs.declared.report.Report.{Report}
-use Rattle.job.specs.Appending.{appended}
 use Rattle.job.specs.Describing.{stacked}
-use Rattle.job.specs.Held.{entries_of, recorder_in, table_of}
+use Rattle.job.specs.Held.{recorder_in, table_of}
 use Rattle.job.specs.Reports.{accepted, Comes}
 use Rattle.job.proofs.stacking.stack_report.Goals as goal
 

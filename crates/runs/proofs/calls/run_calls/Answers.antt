@@ -1,6 +1,6 @@
-use Rattle.std.proofs.Common.{◌≡◌, ℕ, ◌+◌, ◌<◌, ◌≤◌, [], length, get_or, take, is_some, Ok, sym, refl, ap, ◌∙◌, subst, ap₂, arith}
+use Rattle.std.proofs.Common.{◌≡◌, ℕ, ◌+◌, ◌<◌, ◌≤◌, [], length, get_or, is_some, Ok, sym, refl, ap, ◌∙◌, subst, ap₂, arith}
 use Rattle.chart.specs.declared.call.Call.TheVariants.{Clear}
-use Rattle.chart.specs.Model.{State, Terms, state, empty, terms, step, answer}
+use Rattle.chart.specs.Model.{State, state, empty, terms, step, answer}
 use Rattle.runs.specs.Runs.{run, answers, noted}
 use Rattle.runs.proofs.Lists.{run_more, run_all, answers_at, written, kept}
 use Rattle.runs.proofs.calls.run_calls.Goals as goal

@@ -1,4 +1,4 @@
-use Rattle.std.proofs.Common.{◌≡◌, sym, subst}
+use Rattle.std.proofs.Common.{sym, subst}
 use Rattle.semiring.specs.Costs.{cost}
 use Rattle.chart.specs.Cells.{cell_at}
 use Rattle.chart.specs.Model.{state}

@@ -1,7 +1,6 @@
-use Rattle.std.proofs.Common.{◌≡◌, length, take, sym, refl, ap, subst, take_all}
-use Rattle.std.specs.Fmt.{IsPlainFormatter, HasWritten}
-use Rattle.std.proofs.Output.{writes_in_calls_nil, has_written_append, has_written_of_eq}
-use Rattle.answer.specs.Lines.{node_line, node_lines}
+use Rattle.std.proofs.Common.{sym, refl, ap, take_all}
+use Rattle.std.proofs.Output.{has_written_append, has_written_of_eq}
+use Rattle.answer.specs.Lines.{node_lines}
 use Rattle.answer.proofs.Nodes.{lines_more}
 use Rattle.answer.proofs.text.NodesDisplay.fmt.Goals as goal
 

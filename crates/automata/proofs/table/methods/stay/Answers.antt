@@ -1,4 +1,4 @@
-use Rattle.std.proofs.Common.{◌≡◌, ℕ, ◌+◌, ◌/◌, ◌<◌, Bool, cond, length, get_or, set, sym, ap, ◌∙◌, subst, arith, length-set, rules, le-ltb, lt-ltb}
+use Rattle.std.proofs.Common.{◌≡◌, ℕ, ◌/◌, ◌<◌, Bool, cond, length, get_or, set, sym, ap, ◌∙◌, arith, length-set, le-ltb, lt-ltb}
 use Rattle.automata.specs.Making.{stay_at}
 use Rattle.std.proofs.lemmas.List.Edits.{fill_by_more}
 use Rattle.automata.proofs.table.methods.stay.Goals as goal

@@ -1,5 +1,4 @@
 use Rattle.std.proofs.Common.{length, arith}
-use Rattle.chart.specs.Cells.{Room}
 use Rattle.chart.proofs.Places.{room_before}
 use Rattle.chart.proofs.chart.Chart.cell.Goals as goal
 

@@ -1,8 +1,8 @@
-use Rattle.std.proofs.Common.{◌≡◌, ℕ, ◌-◌, ◌≤◌, false, List, map, length, take, Ok, Err, sym, refl, ap, ◌∙◌, subst, arith, rules}
+use Rattle.std.proofs.Common.{◌≡◌, ◌-◌, ◌≤◌, map, length, take, Err, sym, ap, ◌∙◌, subst, arith, rules}
 use Rattle.grammar.specs.Totals.{by}
 use Rattle.chart.specs.declared.call.Call.TheVariants.{Keep, Withdraw}
 use Rattle.chart.specs.Cells.{cell_at}
-use Rattle.chart.specs.Model.{State, state, bits_of, but_last, after, does, Terms, answer, Did}
+use Rattle.chart.specs.Model.{State, state, bits_of, but_last, after, does, Terms, Did}
 use Rattle.chart.proofs.Fewer.{fewer_room, fewer_stands}
 use Rattle.chart.proofs.Listing.{shorter}
 use Rattle.chart.proofs.chart.Chart.withdraw.Goals as goal

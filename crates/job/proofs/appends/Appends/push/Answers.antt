@@ -1,5 +1,4 @@
-use Rattle.std.proofs.Common.{◌<◌, length, ◌∙◌, arith, length-set}
-use Rattle.chart.specs.declared.call.Call.TheVariants.{Append}
+use Rattle.std.proofs.Common.{◌<◌, length, arith, length-set}
 use Rattle.job.proofs.Pushes.{size, pushed, all_pushed}
 use Rattle.job.proofs.appends.Appends.push.Goals as goal
 

@@ -1,4 +1,4 @@
-use Rattle.std.proofs.Common.{◌≡◌, ◌*◌, ◌≤◌, ap, arith}
+use Rattle.std.proofs.Common.{◌*◌, ◌≤◌, ap, arith}
 use Rattle.std.proofs.lemmas.Nat.{mul-le}
 use Rattle.job.proofs.description.Description.nonterminals_over.Goals as goal
 

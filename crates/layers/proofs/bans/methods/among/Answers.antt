@@ -1,4 +1,4 @@
-use Rattle.std.proofs.Common.{sym, ap, ◌∙◌, arith, take_all, rules}
+use Rattle.std.proofs.Common.{sym, ap, ◌∙◌, take_all}
 use Rattle.layers.specs.Ban.{among}
 use Rattle.layers.proofs.Among.{among_next, among_hit}
 use Rattle.layers.proofs.bans.methods.among.Goals as goal

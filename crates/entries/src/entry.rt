@@ -1,6 +1,6 @@
 // An entry: a set of codes that is never empty.
 ghost use Rattle.std.specs.Prelude.{◌≡◌, ◌/◌, ◌%◌, ◌^◌, ◌<◌, MatchOption};
-ghost use Rattle.grammar.specs.Derivations.{has as hasCode};
+ghost use Rattle.grammar.specs.Derivations.{has as has_code};
 
 #[derive(Clone, Copy)]
 pub struct Entry {
@@ -37,7 +37,7 @@ impl Entry {
 
     // Whether the code is in the set.
     pub fn has(self, code: u8) -> bool
-        ensures { result ≡ hasCode self.bits code }
+        ensures { result ≡ has_code self.bits code }
     {
         code < 32 && self.bit(code) == 1
     }

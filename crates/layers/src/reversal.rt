@@ -1,6 +1,6 @@
 // The grammar below with left and right exchanged in every pair rule. A word's derivations match those below of the reversed word.
 ghost use Rattle.std.specs.Prelude.{◌≡◌};
-ghost use Rattle.layers.specs.Reversal.{reversal, turned as turnedRule};
+ghost use Rattle.layers.specs.Reversal.{reversal, turned as turned_rule};
 ghost use Rattle.layers.specs.Matching.{OneForOne, PassesThrough};
 ghost use Rattle.layers.specs.Promises.{ReversalMatches};
 ghost use Rattle.layers.specs.Held.{reversal_meaning};
@@ -35,7 +35,7 @@ impl<G: Grammar> Reversal<G> {
 }
 
 fn turned(rule: Rule) -> Rule
-    ensures { result ≡ turnedRule rule }
+    ensures { result ≡ turned_rule rule }
 {
     let expansion = match rule.expansion {
         Expansion::Pair { left, right } => Expansion::Pair {

@@ -1,6 +1,6 @@
 // Making a list of bans, adding to it, and asking it.
 ghost use Rattle.std.specs.Prelude.{◌≡◌, ◌<◌, [], ◌∷◌, ◌++◌, length, Some};
-ghost use Rattle.layers.specs.Ban.{among as isAmong, add_refused, added};
+ghost use Rattle.layers.specs.Ban.{among as is_among, add_refused, added};
 ghost use Rattle.layers.specs.Held.{banned};
 
 use super::Bans;
@@ -33,7 +33,7 @@ impl Bans {
 
     // Whether a number is banned.
     pub(crate) fn has(&self, number: u32) -> bool
-        ensures { result ≡ isAmong number (banned self.now) }
+        ensures { result ≡ is_among number (banned self.now) }
     {
         among(number, &self.numbers[0..self.count])
     }
@@ -54,7 +54,7 @@ impl Bans {
 }
 
 fn among(number: u32, list: &[u32]) -> bool
-    ensures { result ≡ isAmong number list.now }
+    ensures { result ≡ is_among number list.now }
 {
     for x in list {
         if *x == number {

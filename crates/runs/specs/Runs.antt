@@ -1,5 +1,5 @@
 -- What a list of calls makes of a chart's entries and mark, and what each call is answered. Assumes nothing.
-use Rattle.std.specs.Prelude.{ℕ, cond, List, [], ◌∷◌, length, Result, nat_lt, slice_set}
+use Rattle.std.specs.Prelude.{List, [], ◌∷◌, Result}
 use Rattle.grammar.specs.declared.refusal.Refusal.{Refusal}
 use Rattle.chart.specs.declared.call.Call.{Call}
 use Rattle.chart.specs.Model.{Terms, State, answer, step}
@@ -13,7 +13,3 @@ run t s (c ∷ cs) = run t (step t s c) cs
 abbrev pub answers : Terms → State → List Call → List (Result (Unit {0}) Refusal)
 answers t s [] = []
 answers t s (c ∷ cs) = answer t s c ∷ answers t (step t s c) cs
-
--- a list of answers with one noted at its place, if there is room for it
-abbrev pub noted : List (Result (Unit {0}) Refusal) → ℕ → Result (Unit {0}) Refusal → List (Result (Unit {0}) Refusal)
-noted said i r = cond (nat_lt i (length said)) (slice_set said i r) said

@@ -5,13 +5,12 @@ ghost use Rattle.semiring.specs.Costs.{cost};
 ghost use Rattle.grammar.specs.Totals.{TotalOf, weight_of, by};
 ghost use Rattle.grammar.specs.Costs.{by_cost};
 ghost use Rattle.layers.specs.Promises.{OneForOneAll, SameWeightAll};
-ghost use Rattle.chart.specs.Model.{terms, state, empty};
-ghost use Rattle.chart.specs.Model.{ChartStands};
+ghost use Rattle.chart.specs.Model.{terms, state, empty, ChartStands};
 ghost use Rattle.chart.specs.Reads.{total_answer};
 ghost use Rattle.runs.specs.Runs.{run, answers as all_answers};
 ghost use Rattle.runs.specs.Trees.{TreeAfter};
 
-use crate::calls::run_calls;
+use crate::calls::run_anew;
 use crate::perform::settle;
 use chart::call::Call;
 use chart::chart::Chart;
@@ -35,7 +34,7 @@ fn replay_costs<G: Grammar>(
     ensures tree { TreeAfter (G.meaning grammar.now) (run (terms (G.meaning grammar.now) (G.meaning grammar.now).nonterminals (length slots.old)) empty calls.now).entries records.old records.new result.1 }
 {
     let mut chart = Chart::new(slots, grammar);
-    let trial = run_calls(&mut chart, grammar, &CostWeighing {}, calls, &mut []);
+    let trial = run_anew(&mut chart, grammar, &CostWeighing {}, calls, &mut []);
     let total = chart.total(grammar);
     let answer = tree(&chart, grammar, &CostWeighing {}, records);
     settle(&mut chart, trial);
@@ -93,7 +92,7 @@ pub fn replay<'a, S: Semiring, G: Grammar, W: Weighing<Value = S>>(
     ensures long { length chart.new.slots.cells.now ≡ length chart.old.slots.cells.now }
     ensures named { chart.new.slots.cells.ghost_name ≡ chart.old.slots.cells.ghost_name }
 {
-    let trial = run_calls(chart, grammar, weighing, calls, answers);
+    let trial = run_anew(chart, grammar, weighing, calls, answers);
     let total = total_by(chart, grammar, weighing);
     let (cost, tree) = replay_costs(costs, grammar, calls, records);
     Replayed {

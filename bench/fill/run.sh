@@ -17,7 +17,8 @@ done
 echo 'fill: semiring grammar table chart' >> "$work/crates.txt"
 cp "$here/main.rt.txt" "$work/crates/fill/src/main.rt"
 echo 18446744073709551615 > "$work/crates/fill/stdout"
-(cd "$work/crates/fill" && rt run > "$work/log" 2>&1) || { cat "$work/log"; exit 1; }
+(cd "$work/crates/fill" && rt run > "$work/said" 2> "$work/log") || { cat "$work/log"; exit 1; }
+cmp "$work/said" "$work/crates/fill/stdout"
 rustc -O -o "$work/plain" "$here/plain.rs"
 count() { valgrind --tool=callgrind --callgrind-out-file=/dev/null "$1" 2>&1 | sed -n 's/.*I *refs: *//p' | tr -d ,; }
 proved=$(count "$work/crates/fill/out/fill")

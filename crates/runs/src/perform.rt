@@ -2,8 +2,7 @@
 ghost use Rattle.std.specs.Prelude.{◌≡◌, ℕ, length, is_some, None, Ok};
 ghost use Rattle.grammar.specs.Grammars.{Meaning};
 ghost use Rattle.chart.specs.declared.call.Call.{Call};
-ghost use Rattle.chart.specs.Model.{Terms, terms, state, Did};
-ghost use Rattle.chart.specs.Model.{ChartStands};
+ghost use Rattle.chart.specs.Model.{Terms, terms, state, Did, ChartStands};
 
 use chart::call::Call;
 use chart::chart::Chart;

@@ -7,14 +7,14 @@ top=$(cd "$here/../.." && pwd)
 work=$(mktemp -d)
 trap 'rm -rf "$work"' EXIT
 mkdir -p "$work/crates/fill/src"
-for crate in semiring grammar table chart; do
+for crate in semiring grammar table entries chart; do
     mkdir "$work/crates/$crate"
     for part in src specs proofs; do
         if [ -d "$top/crates/$crate/$part" ]; then cp -r "$top/crates/$crate/$part" "$work/crates/$crate/"; fi
     done
     grep "^$crate:" "$top/crates.txt" >> "$work/crates.txt"
 done
-echo 'fill: semiring grammar table chart' >> "$work/crates.txt"
+echo 'fill: semiring grammar table entries chart' >> "$work/crates.txt"
 cp "$here/main.rt.txt" "$work/crates/fill/src/main.rt"
 echo 18446744073709551615 > "$work/crates/fill/stdout"
 (cd "$work/crates/fill" && rt run > "$work/said" 2> "$work/log") || { cat "$work/log"; exit 1; }

@@ -1,11 +1,11 @@
 -- One span more in a column. Assumes nothing.
-use Rattle.std.proofs.Common.{◌≡◌, ℕ, ◌+◌, ◌<◌, ◌≤◌, cond, eqb, List, Some, None, Option, sym, refl, ap, ◌∙◌, subst, inl, inr, arith}
+use Rattle.std.proofs.Common.{◌≡◌, ℕ, zero, suc, ◌+◌, ◌-◌, ◌<◌, ◌≤◌, cond, eqb, ◌≢◌, ◌⊎◌, List, length, get_or, Some, None, Option, sym, refl, ap, ◌∙◌, subst, ap₂, inl, inr, arith}
 use Rattle.std.proofs.lemmas.Bool.{cases_eq}
-use Rattle.semiring.specs.Semirings.{Operations, Laws}
+use Rattle.semiring.specs.Semirings.{Operations, Laws, sum_below}
 use Rattle.grammar.specs.declared.rule.Rule.{Rule}
 use Rattle.grammar.specs.Grammars.{Meaning, Shown}
 use Rattle.chart.specs.Cells.{place, cell_at}
-use Rattle.grammar.specs.Spans.{rule_share, shares}
+use Rattle.grammar.specs.Spans.{share, rule_share, shares}
 use Rattle.semiring.proofs.Sums.{sum_same}
 use Rattle.chart.specs.Columns.{Row, Column, Cleared}
 use Rattle.chart.proofs.Places.{place_narrow, place_later, place_from, place_after, column_from}

@@ -2,11 +2,12 @@ pub mod Places
 pub mod Wiped
 pub mod Adding
 pub mod Rows
+pub mod Gathering
+pub mod Summing
 pub mod ColumnSteps
 pub mod Standing
-pub mod Listing
-pub mod Calls
 pub mod Totalling
 pub mod Fewer
+pub mod Growing
 pub mod Refills
 pub mod Replacing

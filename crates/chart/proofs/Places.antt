@@ -1,8 +1,10 @@
 -- Cells of different spans lie apart. Assumes nothing.
-use Rattle.std.proofs.Common.{◌≡◌, ℕ, zero, suc, ◌+◌, ◌-◌, ◌*◌, ◌/◌, ◌<◌, ◌≤◌, sym, refl, ap, ◌∙◌, inl, inr, mul-le-mul_right, mul_comm, add-mul, mul-le-mul, mul-add, arith}
+use Rattle.std.proofs.Common.{◌≡◌, ℕ, zero, suc, ◌+◌, ◌-◌, ◌*◌, ◌/◌, ◌<◌, ◌≤◌, ◌⊎◌, sym, refl, ap, ◌∙◌, ap₂, inl, inr, mul-le-mul_right, mul_comm, add-mul, mul-le-mul, mul-add, arith}
 use native.Mathlib.Nat.{add-mul-div_right}
 use Rattle.std.proofs.lemmas.Bool.{cases_lt}
-use Rattle.chart.specs.Cells.{triangle, place, Room}
+use Rattle.std.proofs.lemmas.Nat.{mul-le}
+use Rattle.entries.specs.Spans.{triangle}
+use Rattle.chart.specs.Cells.{place, Room}
 
 twice : (n : ℕ) → (n + 1) * ((n + 1) - 1) ≡ n * (n - 1) + n * 2
 twice zero = refl

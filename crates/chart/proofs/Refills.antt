@@ -1,13 +1,14 @@
 -- One column more, filled anew up to entry k. Assumes nothing.
-use Rattle.std.proofs.Common.{◌≡◌, ℕ, ◌+◌, ◌-◌, ◌<◌, List, get_or, sym, refl, ap, ◌∙◌, subst, inl, inr, arith}
+use Rattle.std.proofs.Common.{◌≡◌, ℕ, ◌+◌, ◌-◌, ◌<◌, ◌≤◌, ◌⊎◌, List, length, get_or, sym, refl, ap, ◌∙◌, subst, inl, inr, arith}
 use Rattle.std.proofs.lemmas.Bool.{cases_lt}
-use Rattle.semiring.specs.Semirings.{Operations, Laws}
+use Rattle.semiring.specs.Semirings.{Operations, Laws, sum_below}
 use Rattle.grammar.specs.Grammars.{Meaning, Shown}
 use Rattle.chart.specs.Cells.{place, cell_at}
 use Rattle.grammar.specs.declared.rule.Rule.{Rule}
 use Rattle.grammar.specs.Spans.{shares}
 use Rattle.chart.specs.Columns.{Column, Refilled}
 use Rattle.chart.proofs.Places.{place_narrow}
+use Rattle.chart.proofs.Rows.{Agree}
 use Rattle.chart.proofs.ColumnSteps.{shares_same}
 
 module _ {S : Type 0} {ops : Operations S} (laws : Laws ops) (weigh : Rule → S) (m : Meaning) (shown : Shown m) (es : List ℕ) (k : ℕ) (xs : List S) where

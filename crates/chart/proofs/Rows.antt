@@ -1,17 +1,20 @@
 -- One rule more in a span. Assumes nothing.
-use Rattle.std.proofs.Common.{◌≡◌, ℕ, ◌+◌, ◌-◌, ◌<◌, cond, ◌≢◌, List, length, Some, None, Option, sym, refl, ap, ◌∙◌, subst, ap₂, inl, inr, arith, eq-eqb, ne_eqb}
-use Rattle.std.proofs.lemmas.List.{get_or-set_same, get_or-set_other}
+use Rattle.std.proofs.Common.{◌≡◌, ℕ, zero, suc, ◌+◌, ◌-◌, ◌<◌, ◌≤◌, Bool, true, false, cond, eqb, ◌≢◌, ◌⊎◌, List, [], ◌∷◌, length, get_or, set, Some, None, fold, Option, sym, refl, ap, ◌∙◌, subst, ap₂, inl, inr, add-one, arith, eq-eqb, ne_eqb}
+use mathlib.Core.Path.{subst⁻¹}
+use Rattle.std.proofs.lemmas.List.{get_or-set_same, get_or-set_other, length-set}
+use Rattle.std.proofs.lemmas.List.Sums.{fold_push}
 use Rattle.std.proofs.lemmas.Bool.{cases_eq}
 use Rattle.semiring.specs.Semirings.{Operations, Laws, sum_below}
 use Rattle.grammar.specs.declared.rule.Expansion.{Expansion}
 use Rattle.grammar.specs.declared.rule.Expansion.TheVariants.{Pair, Leaf}
 use Rattle.grammar.specs.declared.rule.Rule.{Rule}
 use Rattle.grammar.specs.Grammars.{Meaning, Shown, Declared}
-use Rattle.grammar.specs.Spans.{cut_term, share, rule_share, shares}
+use Rattle.grammar.specs.Spans.{share, rule_share, shares}
 use Rattle.semiring.proofs.Sums.{sum_more, sum_none, sum_same}
-use Rattle.chart.specs.Cells.{place, cell_at, added, Room, Names}
-use Rattle.chart.specs.Columns.{with_rule, Row}
-use Rattle.chart.proofs.Places.{place_narrow, place_from, place_after, inside}
+use Rattle.chart.specs.Cells.{place, cell_at, added, cut_product, cut_sum, Room, Names}
+use Rattle.chart.specs.Columns.{with_rule, with_any, Row}
+use Rattle.chart.specs.Gathers.{pushed, rules_below}
+use Rattle.chart.proofs.Places.{place_narrow, place_later, place_from, place_after, inside}
 use Rattle.chart.proofs.Adding.{other_cell}
 
 -- the names of a declared expansion
@@ -20,19 +23,32 @@ names_of m (Pair b c) p = p
 names_of m (Leaf a) p = tt
 
 module _ {S : Type 0} {ops : Operations S} (laws : Laws ops) where
+  -- a product with a sum is the sum of the products
+  pub times-sum : (w : S) (k : ℕ) (f : ℕ → S) → ops.times w (sum_below ops k f) ≡ sum_below ops k (λ i. ops.times w (f i))
+  unfolding sum_below
+  times-sum w zero f = laws.times_zero w
+  times-sum w (suc k) f = laws.times_plus w (sum_below ops k f) (f k) ∙ ap (λ x. ops.plus x (ops.times w (f k))) (times-sum w k f)
+
   -- two tables of cells that agree on the narrower spans inside (begin, end)
   abbrev pub Agree : ℕ → ℕ → ℕ → (ℕ → ℕ → ℕ → S) → (ℕ → ℕ → ℕ → S) → Type 0
   Agree n begin end cell cell' = (k b : ℕ) → begin < k → k < end → b < n → (cell begin k b ≡ cell' begin k b) × (cell k end b ≡ cell' k end b)
+
+  pub cut_sum_same : (n : ℕ) (cell cell' : ℕ → ℕ → ℕ → S) (begin end b c : ℕ) → b < n → c < n → Agree n begin end cell cell'
+      → cut_sum ops cell begin end b c ≡ cut_sum ops cell' begin end b c
+  cut_sum_same n cell cell' begin end b c hb hc agree =
+      sum_same ops (end - (begin + 1)) (cut_product ops cell begin end b c) (cut_product ops cell' begin end b c)
+      (λ k h. ap₂ ops.times
+      (agree (begin + 1 + k) b (omega arith) (omega arith) hb).0
+      (agree (begin + 1 + k) c (omega arith) (omega arith) hc).1)
 
   pub share_same : (n : ℕ) (cell cell' : ℕ → ℕ → ℕ → S) (w : S) (bits begin end : ℕ) (x : Expansion)
       → Names n x → Agree n begin end cell cell'
       → share ops cell w bits begin end x ≡ share ops cell' w bits begin end x
   share_same n cell cell' w bits begin end (Leaf a) names agree = refl
   share_same n cell cell' w bits begin end (Pair b c) names agree =
-      sum_same ops (end - (begin + 1)) (cut_term ops cell w begin end b c) (cut_term ops cell' w begin end b c)
-      (λ k h. ap (ops.times w) (ap₂ ops.times
-      (agree (begin + 1 + k) b (omega arith) (omega arith) names.0).0
-      (agree (begin + 1 + k) c (omega arith) (omega arith) names.1).1))
+      sym (times-sum w _ (cut_product ops cell begin end b c))
+      ∙ ap (ops.times w) (cut_sum_same n cell cell' begin end b c names.0 names.1 agree)
+      ∙ times-sum w _ (cut_product ops cell' begin end b c)
 
   module _ (weigh : Rule → S) (m : Meaning) (bits begin end : ℕ) (xs : List S) where
     abbrev n : ℕ
@@ -68,7 +84,7 @@ module _ {S : Type 0} {ops : Operations S} (laws : Laws ops) where
       same_more a c e h t = one_more a ops.zero c (e ∙ sym (laws.plus_zero (cell_at ops n ys begin end a))) h t
 
       step : begin < end → Room n end (length ys) → Shown m → (o : Option Rule) → m.rule k ≡ o
-          → Row ops weigh m bits begin end (k + 1) xs (with_rule ops weigh n bits begin end ys o)
+          → Row ops weigh m bits begin end (k + 1) xs (with_any ops weigh n bits begin end ys o)
       step h room shown None e = record {
         kept = row.kept;
         cells = λ a l. same_more a (cell_at ops n ys begin end a) refl l (ap (rule_share ops (cell_at ops n xs) weigh bits begin end a) e);
@@ -106,6 +122,26 @@ module _ {S : Type 0} {ops : Operations S} (laws : Laws ops) where
           }
 
       pub row_more : (zs : List S) → begin < end → Room n end (length ys) → Shown m
-          → zs ≡ with_rule ops weigh n bits begin end ys (m.rule k)
+          → zs ≡ with_any ops weigh n bits begin end ys (m.rule k)
           → Row ops weigh m bits begin end (k + 1) xs zs
       row_more zs h room shown e = subst (Row ops weigh m bits begin end (k + 1) xs) (sym e) (step h room shown (m.rule k) refl)
+
+    -- the rules of the numbers below k, one after the other
+    abbrev add : List S → Rule → List S
+    add = with_rule ops weigh n bits begin end
+
+    length_folded : (rules : List Rule) (ys : List S) → length (fold add ys rules) ≡ length ys
+    length_folded [] ys = refl
+    length_folded (r ∷ rules) ys = length_folded rules (add ys r) ∙ length-set ys _ _
+
+    folded_any : (rules : List Rule) (o : Option Rule) → fold add xs (pushed rules o) ≡ with_any ops weigh n bits begin end (fold add xs rules) o
+    folded_any rules None = refl
+    folded_any rules (Some r) = fold_push add xs rules r
+
+    pub row_below : begin < end → Room n end (length xs) → Shown m → (k : ℕ) → Row ops weigh m bits begin end k xs (fold add xs (rules_below m k))
+    unfolding rules_below
+    row_below h room shown zero = row_none
+    row_below h room shown (suc k) =
+        let rules = rules_below m k in
+        subst (λ j. Row ops weigh m bits begin end j xs (fold add xs (rules_below m (suc k)))) (add-one k)
+        (row_more k (fold add xs rules) (row_below h room shown k) _ h (subst⁻¹ (Room n end) (length_folded rules xs) room) shown (folded_any rules (m.rule k)))

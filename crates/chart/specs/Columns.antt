@@ -7,9 +7,13 @@ use Rattle.semiring.specs.Semirings.{Operations}
 use Rattle.chart.specs.Cells.{place, cell_at, added}
 
 -- the slots with a rule's share added to its cell
-abbrev pub with_rule : {S : Type 0} → Operations S → (Rule → S) → ℕ → ℕ → ℕ → ℕ → List S → Option Rule → List S
-with_rule s weigh n last begin end xs None = xs
-with_rule s weigh n last begin end xs (Some r) = added s n xs begin end r.lhs (share s (cell_at s n xs) (weigh r) last begin end r.expansion)
+abbrev pub with_rule : {S : Type 0} → Operations S → (Rule → S) → ℕ → ℕ → ℕ → ℕ → List S → Rule → List S
+with_rule s weigh n last begin end xs r = added s n xs begin end r.lhs (share s (cell_at s n xs) (weigh r) last begin end r.expansion)
+
+-- the slots with the share of the rule that there may be
+abbrev pub with_any : {S : Type 0} → Operations S → (Rule → S) → ℕ → ℕ → ℕ → ℕ → List S → Option Rule → List S
+with_any s weigh n last begin end xs None = xs
+with_any s weigh n last begin end xs (Some r) = with_rule s weigh n last begin end xs r
 
 -- one span, after the rules below k: to each of its cells the shares of these rules are added, and the other slots stay
 pub record Row {S : Type 0} (s : Operations S) (weigh : Rule → S) (m : Meaning) (last begin end k : ℕ) (xs ys : List S) : Type 0 where

@@ -1,4 +1,6 @@
 pub mod Cells
+pub mod Gathers
+pub mod Sums
 pub mod Columns
-pub mod Model
+pub mod Stands
 pub mod Reads

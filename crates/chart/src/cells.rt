@@ -1,11 +1,7 @@
-// Cells in the slots: reading one, adding to one, and adding what a rule contributes.
-ghost use Rattle.std.specs.Prelude.{◌≡◌, ℕ, ◌+◌, ◌-◌, ◌*◌, ◌<◌, ◌≤◌, length};
-ghost use Rattle.semiring.specs.Semirings.{sum_below};
-ghost use Rattle.grammar.specs.Spans.{cut_term, share};
+// Cells in the slots: reading one, adding to one, and the sum over the cuts of a span.
+ghost use Rattle.std.specs.Prelude.{◌≡◌, ℕ, ◌+◌, ◌-◌, ◌*◌, ◌<◌, ◌≤◌, length, replicate};
 ghost use Rattle.chart.specs.Cells as cells;
 
-use super::entry::Entry;
-use grammar::rule::{Expansion, Rule};
 use semiring::semiring::Semiring;
 
 // The slot of the cell of `a` and the span from `begin` to `end`, where each span has `n` cells.
@@ -56,77 +52,43 @@ pub(crate) fn add_to_cell<S: Semiring>(
     slots[at] = slots[at].add(value);
 }
 
-// The sum with a cut more: the weight times the left part times the right part.
-fn with_cut<S: Semiring>(sum: S, weight: S, left: S, right: S) -> S
-    ensures { result ≡ S.ring.plus sum (S.ring.times weight (S.ring.times left right)) }
+// Sets every place to a value.
+pub(crate) fn set_all<T: Copy>(list: &mut [T], value: T)
+    ensures { list.new ≡ replicate (length list.old) value }
 {
-    sum.add(weight.mul(left.mul(right)))
+    for place in list.iter_mut() {
+        *place = value;
+    }
 }
 
-// Adds a pair rule's share to its cell: at each cut its weight times the left cell times the right cell.
-// The sum runs in a local, with running slots of the left and the right cell, and is written once.
-pub(crate) fn add_cuts<S: Semiring>(
-    slots: &mut [S],
+// The sum with a cut more: the left part times the right part.
+fn with_cut<S: Semiring>(sum: S, left: S, right: S) -> S
+    ensures { result ≡ S.ring.plus sum (S.ring.times left right) }
+{
+    sum.add_product(left, right)
+}
+
+// The sum over the cuts of a span of the left cell times the right cell, with running slots of the two.
+pub(crate) fn cut_sum<S: Semiring>(
+    slots: &[S],
     n: usize,
     begin: usize,
     end: usize,
-    lhs: usize,
     left: usize,
     right: usize,
-    weight: S,
-)
-    requires room { cells.Room n end (length slots.old) }
+) -> S
+    requires room { cells.Room n end (length slots.now) }
     requires span { begin < end }
-    requires names { (lhs < n) × (left < n) × (right < n) }
-    ensures { slots.new ≡ cells.added S.ring n slots.old begin end lhs (sum_below S.ring (end - (begin + 1)) (cut_term S.ring (cells.cell_at S.ring n slots.old) weight begin end left right)) }
+    requires names { (left < n) × (right < n) }
+    ensures { result ≡ cells.cut_sum S.ring (cells.cell_at S.ring n slots.now) begin end left right }
 {
-    let at = place(slots, n, begin, end, lhs);
-    let mut sum = slots[at];
+    let mut sum = S::zero();
     let mut l = first_slot(n, begin, begin + 1) + left;
     let mut r = first_slot(n, begin + 1, end) + right;
-    for cut in begin + 1..end {
-        sum = with_cut(sum, weight, slots[l], slots[r]);
-        l += cut * n;
+    for k in 0..end - (begin + 1) {
+        sum = with_cut(sum, slots[l], slots[r]);
+        l += (begin + 1 + k) * n;
         r += n;
     }
-    slots[at] = sum;
-}
-
-// Adds a rule's share to its cell: a pair rule's at a span of several entries, a leaf rule's at one entry.
-pub(crate) fn add_rule<S: Semiring>(
-    slots: &mut [S],
-    n: usize,
-    begin: usize,
-    end: usize,
-    last: Entry,
-    rule: &Rule,
-    weight: S,
-)
-    requires room { cells.Room n end (length slots.old) }
-    requires span { begin < end }
-    requires lhs { rule.now.lhs < n }
-    requires names { cells.Names n rule.now.expansion }
-    ensures { slots.new ≡ cells.added S.ring n slots.old begin end rule.now.lhs (share S.ring (cells.cell_at S.ring n slots.old) weight last.bits begin end rule.now.expansion) }
-{
-    match rule.expansion {
-        Expansion::Pair { left, right } => {
-            if begin + 1 < end {
-                add_cuts(
-                    slots,
-                    n,
-                    begin,
-                    end,
-                    rule.lhs as usize,
-                    left as usize,
-                    right as usize,
-                    weight,
-                );
-            }
-        }
-        Expansion::Leaf { code } => {
-            if begin + 1 == end && last.has(code) {
-                add_to_cell(slots, n, begin, end, rule.lhs as usize, weight);
-            }
-        }
-    }
+    sum
 }

@@ -1,12 +1,13 @@
-// The calls that write no slot: clear, take back, keep and withdraw.
+// The calls that write no slot: clear, take back, keep and withdraw. What they do is what they do to the entries.
 ghost use Rattle.std.specs.Prelude.{◌≡◌, ℕ, Ok};
 ghost use Rattle.grammar.specs.Grammars.{Meaning};
-ghost use Rattle.chart.specs.Model.{Terms, Did, ChartStands};
-ghost use Rattle.chart.specs.declared.call.Call.{Call};
+ghost use Rattle.entries.specs.Model.{Terms, Did};
+ghost use Rattle.entries.specs.declared.call.Call.{Call};
+ghost use Rattle.chart.specs.Stands.{ChartStands};
 
-use super::call::Call;
 use super::chart::Chart;
-use super::trial::Trial;
+use entries::call::Call;
+use entries::trial::Trial;
 use grammar::refusal::Refusal;
 use semiring::semiring::Semiring;
 
@@ -18,8 +19,7 @@ impl<'a, S: Semiring> Chart<'a, S> {
         ensures same { self.new.slots.cells.now ≡ self.old.slots.cells.now }
         ensures named { self.new.slots.cells.ghost_name ≡ self.old.slots.cells.ghost_name }
     {
-        self.entries.count = 0;
-        self.entries.trial = false;
+        self.entries.clear();
     }
 
     // Removes the last entry.
@@ -29,14 +29,7 @@ impl<'a, S: Semiring> Chart<'a, S> {
         ensures same { self.new.slots.cells.now ≡ self.old.slots.cells.now }
         ensures named { self.new.slots.cells.ghost_name ≡ self.old.slots.cells.ghost_name }
     {
-        if self.entries.trial {
-            return Err(Refusal::TrialOpen);
-        }
-        if self.entries.count == 0 {
-            return Err(Refusal::NoEntry);
-        }
-        self.entries.count -= 1;
-        Ok(())
+        self.entries.take_back()
     }
 
     // Spends the token and clears the mark.
@@ -46,12 +39,7 @@ impl<'a, S: Semiring> Chart<'a, S> {
         ensures same { self.new.slots.cells.now ≡ self.old.slots.cells.now }
         ensures named { self.new.slots.cells.ghost_name ≡ self.old.slots.cells.ghost_name }
     {
-        trial.spend();
-        if !self.entries.trial {
-            return Err(Refusal::NoTrial);
-        }
-        self.entries.trial = false;
-        Ok(())
+        self.entries.keep(trial)
     }
 
     // Spends the token, clears the mark and removes the last entry.
@@ -61,8 +49,6 @@ impl<'a, S: Semiring> Chart<'a, S> {
         ensures same { self.new.slots.cells.now ≡ self.old.slots.cells.now }
         ensures named { self.new.slots.cells.ghost_name ≡ self.old.slots.cells.ghost_name }
     {
-        self.keep(trial)?;
-        self.entries.count = self.entries.count.saturating_sub(1);
-        Ok(())
+        self.entries.withdraw(trial)
     }
 }

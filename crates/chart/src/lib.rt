@@ -2,17 +2,14 @@
 #![tactic(auto)]
 
 mod appends;
-pub mod call;
 mod cells;
 pub mod chart;
 mod columns;
 mod edits;
-pub mod entries;
-pub mod entry;
+mod filling;
+mod gathered;
 mod reads;
 mod replaces;
+mod shares;
 pub mod slots;
-pub mod trial;
-mod trials;
-
-pub use appends::{is_full, is_improper};
+mod sums;

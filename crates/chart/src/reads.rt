@@ -1,14 +1,15 @@
 // Making a chart, and what it answers.
-ghost use Rattle.std.specs.Prelude.{◌≡◌, ℕ, ◌<◌, ◌≤◌, length, IfOk, MatchOption, slice_index};
+ghost use Rattle.std.specs.Prelude.{◌≡◌, ℕ, ◌<◌, IfOk, if◌then◌else◌};
 ghost use Rattle.grammar.specs.Totals.{TotalOf, weight_of, by};
 ghost use Rattle.grammar.specs.Derivations.{EntriesFromStarts};
-ghost use Rattle.chart.specs.Model.{state, empty, ChartStands};
+ghost use Rattle.entries.specs.Model.{state, empty};
+ghost use Rattle.chart.specs.Cells.{cell_at};
+ghost use Rattle.chart.specs.Stands.{ChartStands};
 ghost use Rattle.chart.specs.Reads.{cell_answer, total_answer};
 
 use super::chart::Chart;
-use super::entries::Entries;
-use super::entry::Entry;
 use super::slots::Slots;
+use entries::list::Entries;
 use grammar::grammar::Grammar;
 use grammar::refusal::Refusal;
 use semiring::semiring::Semiring;
@@ -21,70 +22,28 @@ impl<'a, S: Semiring> Chart<'a, S> {
         ensures same { result.slots.cells.now ≡ slots.old }
         ensures named { result.slots.cells.ghost_name ≡ slots.entry.ghost_name }
     {
-        let entries = Entries {
-            list: [Entry::first_code(); 64],
-            count: 0,
-            trial: false,
-            nonterminals: grammar.nonterminals(),
-        };
         Chart {
             slots: Slots { cells: slots },
-            entries,
+            entries: Entries::new(grammar.nonterminals()),
         }
     }
 
-    // How many nonterminals the chart was made for.
-    pub fn nonterminals(&self) -> u32
-        ensures { result ≡ self.now.entries.nonterminals }
+    // The entries and the mark.
+    pub fn entries(&self) -> &Entries
+        ensures { result.now ≡ self.now.entries }
     {
-        self.entries.nonterminals
-    }
-
-    // The entries and the mark, as they are now.
-    pub fn entries(&self) -> Entries
-        ensures { result ≡ self.now.entries }
-    {
-        self.entries
-    }
-
-    // How many entries there are.
-    pub fn len(&self) -> usize
-        ensures { result ≡ length (state self.now.entries).entries }
-    {
-        self.entries.count
-    }
-
-    // The entry at a place, if there is one.
-    #[tactic(auto, using(crate::proofs::Listing::size, crate::proofs::Listing::at_place))]
-    pub fn entry(&self, place: usize) -> Option<Entry>
-        ensures { MatchOption result (length (state self.now.entries).entries ≤ place) (λ e. (place < length (state self.now.entries).entries) × (e.bits ≡ slice_index (state self.now.entries).entries place)) }
-    {
-        if place < self.entries.count {
-            Some(self.entries.list[place])
-        } else {
-            None
-        }
-    }
-
-    // Whether a trial is open.
-    pub fn trial_open(&self) -> bool
-        ensures { result ≡ (state self.now.entries).trial }
-    {
-        self.entries.trial
+        &self.entries
     }
 
     // The value of the cell of a nonterminal and the span from `begin` to `end`, if that is in use.
     pub fn cell(&self, begin: usize, end: usize, nonterminal: u32) -> Option<S>
         ensures { result ≡ cell_answer S.ring self.now.entries.nonterminals self.now.entries.count self.now.slots.cells.now begin end nonterminal }
     {
-        if begin < end && end <= self.entries.count && nonterminal < self.entries.nonterminals {
+        let n = self.entries.nonterminals();
+        if begin < end && end <= self.entries.len() && nonterminal < n {
             Some(
-                self.slots.cell(
-                    self.entries.nonterminals as usize,
-                    begin,
-                    end,
-                    nonterminal as usize,
-                ),
+                self.slots
+                    .cell(n as usize, begin, end, nonterminal as usize),
             )
         } else {
             None
@@ -96,23 +55,35 @@ impl<'a, S: Semiring> Chart<'a, S> {
         ensures is { result ≡ total_answer S.ring (G.meaning grammar.now) self.now.entries.nonterminals self.now.entries.count self.now.slots.cells.now }
         ensures total { (w : ℕ → ℕ → S) → ChartStands S.ring w (G.meaning grammar.now) self.now.entries self.now.slots.cells.now → IfOk result (TotalOf S.ring (EntriesFromStarts (G.meaning grammar.now) (state self.now.entries).entries) (weight_of S.ring (by w) (G.meaning grammar.now))) }
     {
-        let n = self.entries.nonterminals;
+        let n = self.entries.nonterminals();
         if grammar.nonterminals() != n {
             return Err(Refusal::OtherGrammar);
         }
         let mut sum = S::zero();
-        if self.entries.count == 0 {
+        if self.entries.len() == 0 {
             return Ok(sum);
         }
         for a in 0..n {
-            if grammar.is_start(a) {
-                sum = sum.add(
-                    self.slots
-                        .cell(n as usize, 0, self.entries.count, a as usize),
-                );
-            }
+            sum = sum.add(self.start_cell(grammar, a));
         }
         Ok(sum)
+    }
+
+    // The cell of all entries and a nonterminal, where that is a start, and else zero.
+    fn start_cell<G: Grammar>(&self, grammar: &G, a: u32) -> S
+        requires some { 0 < self.now.entries.count }
+        requires named { a < self.now.entries.nonterminals }
+        ensures { result ≡ (if (G.meaning grammar.now).start a then cell_at S.ring self.now.entries.nonterminals self.now.slots.cells.now 0 self.now.entries.count a else S.ring.zero) }
+    {
+        if !grammar.is_start(a) {
+            return S::zero();
+        }
+        self.slots.cell(
+            self.entries.nonterminals() as usize,
+            0,
+            self.entries.len(),
+            a as usize,
+        )
     }
 
     // The slots, given back.

@@ -1,37 +1,17 @@
 // Changing the entry at a place.
-ghost use Rattle.std.specs.Prelude.{◌≡◌, ℕ, ◌+◌, ◌<◌, ◌≤◌, length, MatchResult, OnOk};
+ghost use Rattle.std.specs.Prelude.{◌≡◌, ℕ, ◌+◌, length, MatchResult};
 ghost use Rattle.grammar.specs.Totals.{by};
+ghost use Rattle.entries.specs.Model.{state, terms, Did};
+ghost use Rattle.entries.specs.declared.call.Call.{Call};
 ghost use Rattle.chart.specs.Columns.{Refilled};
-ghost use Rattle.chart.specs.Model.{state, terms, verdict, replace_tests, Admits, Did, ChartStands};
-ghost use Rattle.chart.specs.declared.call.Call.{Call};
+ghost use Rattle.chart.specs.Stands.{ChartStands};
 
-use super::appends::proper_entry;
-use super::call::Call;
 use super::chart::Chart;
-use super::entries::Entries;
-use super::entry::Entry;
+use entries::call::Call;
 use grammar::grammar::Grammar;
 use grammar::refusal::Refusal;
 use grammar::weighing::Weighing;
 use semiring::semiring::Semiring;
-
-// The bits as an entry that may take the place of entry `k`.
-fn admit_at(entries: &Entries, n: u32, codes: u32, k: usize, bits: u32) -> Result<Entry, Refusal>
-    requires { codes ≤ 32 }
-    ensures admits { (slots : ℕ) → Admits (verdict (replace_tests (record { own = entries.now.nonterminals; slots = slots; shown = n; codes = codes }) entries.now.count entries.now.trial k bits)) bits result }
-    ensures inside { OnOk result ((n ≡ entries.now.nonterminals) × (k < entries.now.count)) }
-{
-    if n != entries.nonterminals {
-        return Err(Refusal::OtherGrammar);
-    }
-    if entries.trial {
-        return Err(Refusal::TrialOpen);
-    }
-    if k >= entries.count {
-        return Err(Refusal::NoEntry);
-    }
-    proper_entry(bits, codes)
-}
 
 impl<'a, S: Semiring> Chart<'a, S> {
     // Changes the entry at the place `k`, and fills anew the spans that cover it.
@@ -48,14 +28,7 @@ impl<'a, S: Semiring> Chart<'a, S> {
         ensures long { length self.new.slots.cells.now ≡ length self.old.slots.cells.now }
         ensures named { self.new.slots.cells.ghost_name ≡ self.old.slots.cells.ghost_name }
     {
-        let entry = admit_at(
-            &self.entries,
-            grammar.nonterminals(),
-            grammar.codes(),
-            k,
-            bits,
-        )?;
-        self.entries.list[k] = entry;
+        self.entries.replace(grammar, k, bits)?;
         self.slots.refill(grammar, weighing, &self.entries, k);
         Ok(())
     }

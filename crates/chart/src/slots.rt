@@ -3,12 +3,12 @@ ghost use Rattle.std.specs.Prelude.{◌≡◌, ℕ, ◌+◌, ◌<◌, length};
 ghost use Rattle.grammar.specs.Totals.{by};
 ghost use Rattle.chart.specs.Cells as cells;
 ghost use Rattle.chart.specs.Columns as columns;
-ghost use Rattle.chart.specs.Model.{state};
+ghost use Rattle.entries.specs.Model.{state};
 
 use super::cells::cell;
 use super::columns::{fill_column, refill};
-use super::entries::Entries;
-use super::entry::Entry;
+use entries::entry::Entry;
+use entries::list::Entries;
 use grammar::grammar::Grammar;
 use grammar::weighing::Weighing;
 use semiring::semiring::Semiring;
@@ -67,12 +67,6 @@ impl<'a, S: Semiring> Slots<'a, S> {
         ensures long { length self.new.cells.now ≡ length self.old.cells.now }
         ensures named { self.new.cells.ghost_name ≡ self.old.cells.ghost_name }
     {
-        refill(
-            &mut *self.cells,
-            grammar,
-            weighing,
-            &entries.list[0..entries.count],
-            k,
-        );
+        refill(&mut *self.cells, grammar, weighing, entries.all(), k);
     }
 }

@@ -1,9 +1,9 @@
 -- Accepted and refused calls, in the model's words. Assumes nothing.
-use Rattle.std.proofs.Common.{◌≡◌, ℕ, length, Ok, Err, Result, sym, ap, ◌∙◌, subst, MatchResult}
+use Rattle.std.proofs.Common.{◌≡◌, ℕ, Bool, List, length, Ok, Err, Result, sym, ap, ◌∙◌, subst, MatchResult}
 use Rattle.grammar.specs.declared.refusal.Refusal.{Refusal}
 use Rattle.entries.specs.declared.list.Entries.{Entries}
 use Rattle.entries.specs.declared.call.Call.{Call}
-use Rattle.entries.specs.Model.{state, Terms, verdict, entry_tests, replace_tests, answer, after, does, Did}
+use Rattle.entries.specs.Model.{State, state, Terms, Test, verdict, entry_tests, replace_tests, answer, after, does, step, Did}
 use Rattle.entries.proofs.Listing.{size}
 
 -- an accepted call took e to f

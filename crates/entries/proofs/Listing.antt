@@ -1,11 +1,11 @@
 -- The entries of a chart as bits, when one is added, removed or replaced. Assumes nothing.
-use Rattle.std.proofs.Common.{◌≡◌, ℕ, ◌+◌, ◌-◌, ◌<◌, Bool, List, [], ◌∷◌, ◌++◌, map, length, get_or, take, set, sym, ap, ◌∙◌, arith, take-take}
+use Rattle.std.proofs.Common.{◌≡◌, ℕ, zero, suc, ◌+◌, ◌-◌, ◌<◌, ◌≤◌, Bool, List, [], ◌∷◌, ◌++◌, map, length, get_or, take, set, sym, refl, ap, ◌∙◌, arith, take-take}
 use mathlib.Core.List.{map-append}
 use lib.Seq.{take-set-lt}
 use Rattle.std.proofs.lemmas.List.{length-take-le, take_more_set, length-map, take-map, map-set, get_or-map, get_or-take}
 use Rattle.entries.specs.declared.entry.Entry.{Entry}
 use Rattle.entries.specs.declared.list.Entries.{Entries}
-use Rattle.entries.specs.Model.{state, bits_of, but_last, Fields}
+use Rattle.entries.specs.Model.{State, state, bits_of, but_last, Fields}
 
 -- as many as are in use
 pub size : (e : Entries) → length (state e).entries ≡ e.count

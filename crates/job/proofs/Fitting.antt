@@ -4,8 +4,9 @@ use Rattle.std.proofs.lemmas.Bool.{true≢false, not-true, and_parts, or_parts}
 use Rattle.std.proofs.lemmas.List.{length_push}
 use Rattle.grammar.specs.declared.refusal.Refusal.TheVariants.{BadEntry, TrialOpen, NoRoom, OtherGrammar}
 use Rattle.grammar.specs.Grammars.{Meaning}
-use Rattle.chart.specs.declared.call.Call.TheVariants.{Append}
-use Rattle.chart.specs.Model.{State, terms, verdict, full, entry_tests, improper, after}
+use Rattle.entries.specs.declared.call.Call.TheVariants.{Append}
+use Rattle.entries.specs.Spans.{full}
+use Rattle.entries.specs.Model.{State, terms, verdict, entry_tests, improper, after}
 use Rattle.runs.specs.Runs.{run}
 use Rattle.commands.specs.declared.command.Command.{Command}
 use Rattle.commands.specs.declared.command.Command.TheVariants.{Grammar, Pair, Leaf, Ban, Automaton, Step, Renaming, Reading, Entry, End}

@@ -2,8 +2,8 @@
 use Rattle.std.proofs.Common.{◌≡◌, ℕ, ◌+◌, ◌<◌, List, [], ◌∷◌, ◌++◌, map, length, take, set, sym, ap, ◌∙◌, arith}
 use mathlib.Core.List.{map-append}
 use Rattle.std.proofs.lemmas.List.{length-take-le, take_more_set, length-map}
-use Rattle.chart.specs.declared.call.Call.{Call}
-use Rattle.chart.specs.declared.call.Call.TheVariants.{Append}
+use Rattle.entries.specs.declared.call.Call.{Call}
+use Rattle.entries.specs.declared.call.Call.TheVariants.{Append}
 use Rattle.job.specs.declared.appends.Appends.{Appends}
 use Rattle.job.specs.Appending.{bits_of, appended}
 use Rattle.job.specs.Held.{entries_of}

@@ -1,7 +1,7 @@
 -- Entries, and the calls that append them. Assumes nothing.
 use Rattle.std.specs.Prelude.{ℕ}
-use Rattle.chart.specs.declared.call.Call.{Call}
-use Rattle.chart.specs.declared.call.Call.TheVariants.{Clear, Append, TakeBack, Replace, Try, Keep, Withdraw}
+use Rattle.entries.specs.declared.call.Call.{Call}
+use Rattle.entries.specs.declared.call.Call.TheVariants.{Clear, Append, TakeBack, Replace, Try, Keep, Withdraw}
 
 -- the call that appends an entry
 abbrev pub appended : ℕ → Call

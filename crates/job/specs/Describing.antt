@@ -11,7 +11,8 @@ use Rattle.automata.specs.Making.{table_refused, table_made, write_refused, writ
 use Rattle.layers.specs.Ban.{add_refused, added, ban}
 use Rattle.layers.specs.Intersection.{intersection}
 use Rattle.layers.specs.Renaming.{Recorder, readings_refused, readings_made, read_refused, reading_to, renaming}
-use Rattle.chart.specs.Model.{full, improper}
+use Rattle.entries.specs.Spans.{full}
+use Rattle.entries.specs.Model.{improper}
 use Rattle.commands.specs.declared.command.Command.{Command}
 use Rattle.commands.specs.declared.command.Command.TheVariants.{Grammar, Pair, Leaf, Ban, Automaton, Step, Renaming, Reading, Entry, End}
 

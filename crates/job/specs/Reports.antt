@@ -9,8 +9,8 @@ use Rattle.grammar.specs.Grammars.{Meaning}
 use Rattle.grammar.specs.Derivations.{EntriesFromStarts}
 use Rattle.grammar.specs.Totals.{TotalOf, weight_of, by}
 use Rattle.grammar.specs.Costs.{by_cost}
-use Rattle.chart.specs.declared.call.Call.{Call}
-use Rattle.chart.specs.Model.{terms, empty}
+use Rattle.entries.specs.declared.call.Call.{Call}
+use Rattle.entries.specs.Model.{terms, empty}
 use Rattle.tree.specs.declared.record.Record.{Record}
 use Rattle.tree.specs.Trees.{Underivable}
 use Rattle.runs.specs.Runs.{run}

@@ -4,7 +4,7 @@ ghost use Rattle.job.specs.Appending.{appended};
 ghost use Rattle.job.specs.Held.{entries_of};
 
 use crate::appends::Appends;
-use chart::call::Call;
+use entries::call::Call;
 
 impl Appends {
     // No entries.

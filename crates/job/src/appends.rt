@@ -2,7 +2,7 @@
 ghost use Rattle.std.specs.Prelude.{◌≡◌, ◌≤◌, map, length, take};
 ghost use Rattle.job.specs.Appending.{bits_of, appended};
 
-use chart::call::Call;
+use entries::call::Call;
 
 #[derive(Clone, Copy)]
 pub(crate) struct Appends {

@@ -11,8 +11,8 @@ ghost use Rattle.job.specs.Reports.{accepted, written_by, UnitTotal, Comes};
 
 use crate::entering::SLOTS;
 use answer::report::{Report, Totals};
-use chart::call::Call;
 use chart::chart::Chart;
+use entries::call::Call;
 use grammar::grammar::Grammar;
 use grammar::refusal::Refusal;
 use grammar::weighing::UnitWeighing;

@@ -2,7 +2,7 @@
 ghost use Rattle.std.specs.Prelude.{◌≡◌};
 ghost use Rattle.job.specs.Describing.{entry_refusal};
 
-use chart::{is_full, is_improper};
+use entries::admission::{is_full, is_improper};
 use grammar::refusal::Refusal;
 
 // The slots of each chart.

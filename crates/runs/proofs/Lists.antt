@@ -1,8 +1,8 @@
 -- One call more of a list. Assumes nothing.
 use Rattle.std.proofs.Common.{◌≡◌, ℕ, zero, suc, ◌+◌, ◌<◌, ◌≤◌, ◌≢◌, List, [], ◌∷◌, length, get_or, take, set, Ok, Result, refl, ap, le_of_suc-le-suc, not-suc-le-zero, add-one, arith, take_all, get_or-set_other, get_or-set_same, below_more}
 use Rattle.grammar.specs.declared.refusal.Refusal.{Refusal}
-use Rattle.chart.specs.declared.call.Call.{Call}
-use Rattle.chart.specs.Model.{Terms, State, answer, step}
+use Rattle.entries.specs.declared.call.Call.{Call}
+use Rattle.entries.specs.Model.{Terms, State, answer, step}
 use Rattle.runs.specs.Runs.{run, answers}
 
 run_suc : (t : Terms) (s : State) (cs : List Call) (i : ℕ) (d : Call) → i < length cs → run t s (take (suc i) cs) ≡ step t (run t s (take i cs)) (get_or cs i d)

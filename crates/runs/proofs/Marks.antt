@@ -1,8 +1,8 @@
 -- The mark after each call. Assumes nothing.
 use Rattle.std.proofs.Common.{◌≡◌, ℕ, Bool, true, false, List, Ok, Err, Result, refl}
 use Rattle.grammar.specs.declared.refusal.Refusal.{Refusal}
-use Rattle.chart.specs.declared.call.Call.TheVariants.{Append, TakeBack, Replace, Keep, Withdraw}
-use Rattle.chart.specs.Model.{Terms, State, after, step}
+use Rattle.entries.specs.declared.call.Call.TheVariants.{Append, TakeBack, Replace, Keep, Withdraw}
+use Rattle.entries.specs.Model.{Terms, State, after, step}
 
 keep_entries_at : (t : Terms) (es : List ℕ) (b : Bool) → (step t (record { entries = es; trial = b }) Keep).entries ≡ es
 keep_entries_at t es true = refl

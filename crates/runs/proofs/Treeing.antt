@@ -5,10 +5,10 @@ use Rattle.semiring.specs.Costs.{cost, none}
 use Rattle.grammar.specs.declared.refusal.Refusal.{Refusal}
 use Rattle.grammar.specs.declared.refusal.Refusal.TheVariants.{NoDerivation, FewRecords, OtherGrammar}
 use Rattle.grammar.specs.Grammars.{Meaning}
-use Rattle.chart.specs.declared.entries.Entries.{Entries}
-use Rattle.chart.specs.Model.{state}
+use Rattle.entries.specs.declared.list.Entries.{Entries}
+use Rattle.entries.specs.Model.{state}
 use Rattle.chart.specs.Reads.{whole_total}
-use Rattle.chart.proofs.Listing.{size}
+use Rattle.entries.proofs.Listing.{size}
 use Rattle.tree.specs.declared.record.Record.{Record}
 use Rattle.tree.specs.Trees.{nodes_answer, tree_answer, chart_answer, Cheapest}
 use Rattle.grammar.specs.Costs.{by_cost}

@@ -1,8 +1,8 @@
 -- What a list of calls makes of a chart's entries and mark, and what each call is answered. Assumes nothing.
 use Rattle.std.specs.Prelude.{List, [], ◌∷◌, Result}
 use Rattle.grammar.specs.declared.refusal.Refusal.{Refusal}
-use Rattle.chart.specs.declared.call.Call.{Call}
-use Rattle.chart.specs.Model.{Terms, State, answer, step}
+use Rattle.entries.specs.declared.call.Call.{Call}
+use Rattle.entries.specs.Model.{Terms, State, answer, step}
 
 -- the state after all calls of a list
 abbrev pub run : Terms → State → List Call → State

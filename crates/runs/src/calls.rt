@@ -1,12 +1,13 @@
 // All calls of a list, one after another.
 ghost use Rattle.std.specs.Prelude.{◌≡◌, ℕ, ◌<◌, ◌≤◌, length, is_some, Ok, slice_index_or};
-ghost use Rattle.chart.specs.Model.{terms, state, empty, ChartStands};
+ghost use Rattle.entries.specs.Model.{terms, state, empty};
+ghost use Rattle.chart.specs.Stands.{ChartStands};
 ghost use Rattle.runs.specs.Runs.{run, answers as all_answers};
 
 use crate::perform::{begin, perform};
-use chart::call::Call;
 use chart::chart::Chart;
-use chart::trial::Trial;
+use entries::call::Call;
+use entries::trial::Trial;
 use grammar::grammar::Grammar;
 use grammar::refusal::Refusal;
 use grammar::weighing::Weighing;

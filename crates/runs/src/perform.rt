@@ -1,12 +1,13 @@
 // One call of a list.
 ghost use Rattle.std.specs.Prelude.{◌≡◌, ℕ, length, is_some, None, Ok};
 ghost use Rattle.grammar.specs.Grammars.{Meaning};
-ghost use Rattle.chart.specs.declared.call.Call.{Call};
-ghost use Rattle.chart.specs.Model.{Terms, terms, state, Did, ChartStands};
+ghost use Rattle.entries.specs.declared.call.Call.{Call};
+ghost use Rattle.entries.specs.Model.{Terms, terms, state, Did};
+ghost use Rattle.chart.specs.Stands.{ChartStands};
 
-use chart::call::Call;
 use chart::chart::Chart;
-use chart::trial::Trial;
+use entries::call::Call;
+use entries::trial::Trial;
 use grammar::grammar::Grammar;
 use grammar::refusal::Refusal;
 use grammar::weighing::Weighing;

@@ -1,5 +1,5 @@
 -- A grammar with every nonterminal a start. Assumes nothing.
-use Rattle.std.specs.Prelude.{◌≡◌, ℕ, Bool, true, false, T, nat_lt}
+use Rattle.std.specs.Prelude.{◌≡◌, ℕ, ◌<◌, Bool, true, false, T, nat_lt}
 use Rattle.std.proofs.Common.{arith, ltb→lt}
 use Rattle.grammar.specs.Grammars.{Meaning, Shown}
 

@@ -1,7 +1,7 @@
 // A list of calls with refusals in between: the answers, and each cell beside that of a chart filled anew.
 use crate::rules::{BLANK, known_rules};
-use chart::call::Call;
 use chart::chart::Chart;
+use entries::call::Call;
 use grammar::grammar::Grammar;
 use grammar::refusal::Refusal;
 use grammar::weighing::UnitWeighing;
@@ -153,7 +153,7 @@ fn token_after_clear(rt: HostRuntime) -> Result<(), Fail> {
         Ok(trial) => {
             chart.clear();
             assert_eq!(rt; chart.keep(trial), Err(Refusal::NoTrial));
-            assert_eq!(rt; chart.len(), 0);
+            assert_eq!(rt; chart.entries().len(), 0);
             Ok(())
         }
         Err(_) => Err(Fail::new("refused")),

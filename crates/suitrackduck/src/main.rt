@@ -2,8 +2,8 @@
 // in how many ways, and at what least cost.
 #![tactic(auto)]
 
-use chart::call::Call;
 use chart::chart::Chart;
+use entries::call::Call;
 use grammar::grammar::Grammar;
 use grammar::refusal::Refusal;
 use grammar::rule::{Expansion, Rule};

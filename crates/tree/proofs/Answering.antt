@@ -1,6 +1,6 @@
 -- What the tree call answers, from the total. Assumes nothing.
-use Rattle.std.proofs.Common.{◌≡◌, ℕ, zero, suc, ◌-◌, ◌*◌, ◌<◌, ◌≤◌, Bool, true, false, cond, eqb, leb, ◌≢◌, ◌⊎◌, List, length, Some, Ok, Err, Result, sym, refl, ap, ◌∙◌, subst, inl, inr, arith, eqb→eq, leb→le, eq-eqb}
-use Rattle.std.proofs.lemmas.Bool.{cond-true}
+use Rattle.std.proofs.Common.{◌≡◌, ℕ, zero, suc, ◌+◌, ◌-◌, ◌*◌, ◌<◌, ◌≤◌, Bool, true, false, cond, eqb, leb, ◌≢◌, ◌⊎◌, List, length, Some, Ok, Err, Result, sym, refl, ap, ◌∙◌, subst, ap₂, inl, inr, arith, eqb→eq, leb→le, eq-eqb, ne_eqb}
+use Rattle.std.proofs.lemmas.Bool.{cond-true, cond-false}
 use Rattle.semiring.specs.Semirings.{Operations}
 use Rattle.semiring.specs.declared.cost.Cost.{Cost}
 use Rattle.semiring.specs.Costs.{cost, costing, none}
@@ -11,16 +11,17 @@ use Rattle.grammar.specs.declared.rule.Rule.{Rule}
 use Rattle.grammar.specs.Grammars.{Meaning, Shown}
 use Rattle.grammar.specs.Derivations.{Tree, EntriesFromStarts}
 use Rattle.grammar.specs.Totals.{TotalOf, weight_of, by}
-use Rattle.grammar.specs.Spans.{start_sum, Filled}
+use Rattle.grammar.specs.Spans.{start_sum, Filled, Stands}
 use Rattle.grammar.specs.Costs.{cost_of}
 use Rattle.grammar.proofs.Truths.{true_of, not_both}
 use Rattle.grammar.proofs.Cheapest.{total_least, below_none}
 use Rattle.grammar.proofs.Spanning.{stands_filled}
-use Rattle.chart.specs.declared.entries.Entries.{Entries}
+use Rattle.entries.specs.declared.list.Entries.{Entries}
 use Rattle.chart.specs.Cells.{cell_at}
-use Rattle.chart.specs.Model.{state, ChartStands}
+use Rattle.entries.specs.Model.{state}
+use Rattle.chart.specs.Stands.{ChartStands}
 use Rattle.chart.specs.Reads.{whole_total, total_answer}
-use Rattle.chart.proofs.Listing.{size}
+use Rattle.entries.proofs.Listing.{size}
 use Rattle.chart.proofs.Totalling.{some_whole, total_stands}
 use Rattle.tree.specs.declared.record.Record.{Record}
 use Rattle.tree.specs.Trees.{nodes_answer, tree_answer, chart_answer, ChartCheapest, WeighsCost, TellsNone}

@@ -1,5 +1,5 @@
 -- Rivals: that there is one, the first of them, and what follows of one. Assumes nothing.
-use Rattle.std.proofs.Common.{◌≡◌, ℕ, zero, suc, ◌+◌, ◌-◌, ◌<◌, ◌≤◌, min, Bool, true, false, cond, ◌&&◌, eqb, List, get_or, Some, None, Option, sym, refl, ap, ◌∙◌, subst, ap₂, inl, inr, arith, eqb→eq}
+use Rattle.std.proofs.Common.{◌≡◌, ℕ, zero, suc, ◌+◌, ◌-◌, ◌<◌, ◌≤◌, min, Bool, true, false, cond, ◌&&◌, eqb, ◌⊎◌, List, length, get_or, Some, None, Option, sym, refl, ap, ◌∙◌, subst, ap₂, inl, inr, arith, eqb→eq}
 use native.Mathlib.Decide.{dec_le}
 use Rattle.std.proofs.lemmas.Bool.{cases_lt}
 use Rattle.semiring.specs.declared.cost.Cost.{Cost}
@@ -8,12 +8,12 @@ use Rattle.semiring.specs.Costs.{cost, none}
 use Rattle.grammar.specs.declared.rule.Expansion.{Expansion}
 use Rattle.grammar.specs.declared.rule.Expansion.TheVariants.{Pair, Leaf}
 use Rattle.grammar.specs.declared.rule.Rule.{Rule}
-use Rattle.grammar.specs.Grammars.{Meaning, Declared}
+use Rattle.grammar.specs.Grammars.{Meaning, Shown, Declared}
 use Rattle.grammar.specs.Derivations.{has}
 use Rattle.grammar.specs.Spans.{cut_term, share, rule_share, shares}
 use Rattle.grammar.proofs.Truths.{true_of}
 use Rattle.tree.specs.declared.node.Choice.{Choice}
-use Rattle.tree.specs.Rivals.{LeafAttains, Attains, Rival}
+use Rattle.tree.specs.Rivals.{LeafAttains, PairAttains, Attains, Rival, First}
 use Rattle.tree.specs.Steps.{Parts, PickedAt, PickedOf}
 
 -- the smallest cut of the lowest rule number

@@ -1,11 +1,12 @@
 -- One node more of a tree. Assumes nothing.
-use Rattle.std.proofs.Common.{◌≡◌, ℕ, ◌+◌, ◌-◌, ◌*◌, ◌<◌, ◌≤◌, List, [], ◌∷◌, ◌++◌, length, set, Some, sym, refl, ap, ◌∙◌, subst, ap₂, arith, length-append}
+use Rattle.std.proofs.Common.{◌≡◌, ℕ, ◌+◌, ◌-◌, ◌*◌, ◌<◌, ◌≤◌, List, [], ◌∷◌, ◌++◌, length, get_or, set, Some, None, sym, refl, ap, ◌∙◌, subst, ap₂, arith, length-append}
 use Rattle.semiring.specs.declared.cost.Cost.{Cost}
 use Rattle.semiring.specs.Costs.{cost, none}
-use Rattle.grammar.specs.declared.rule.Expansion.TheVariants.{Pair}
+use Rattle.grammar.specs.declared.rule.Expansion.{Expansion}
+use Rattle.grammar.specs.declared.rule.Expansion.TheVariants.{Pair, Leaf}
 use Rattle.grammar.specs.declared.rule.Rule.{Rule}
 use Rattle.grammar.specs.Grammars.{Meaning}
-use Rattle.grammar.specs.Derivations.{leaf, node, leaves, pair_rule}
+use Rattle.grammar.specs.Derivations.{Tree, leaf, node, leaves, pair_rule}
 use Rattle.grammar.specs.Spans.{Filled}
 use Rattle.tree.specs.declared.node.Choice.{Choice}
 use Rattle.tree.specs.declared.record.Record.{Record}

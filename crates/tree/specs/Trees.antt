@@ -1,5 +1,5 @@
 -- The records of a tree, what the tree call answers and writes, and the theorems on its contract. Assumes nothing.
-use Rattle.std.specs.Prelude.{◌≡◌, ℕ, ◌+◌, ◌-◌, ◌*◌, ◌<◌, ◌≤◌, true, cond, List, [], ◌∷◌, ◌++◌, length, Some, None, Ok, Err, Option, Result, ◌==◌, nat_le}
+use Rattle.std.specs.Prelude.{◌≡◌, ℕ, ◌+◌, ◌-◌, ◌*◌, ◌<◌, ◌≤◌, Bool, true, cond, List, [], ◌∷◌, ◌++◌, length, Some, None, Ok, Err, Option, Result, ◌==◌, nat_le}
 use Rattle.semiring.specs.declared.cost.Cost.{Cost}
 use Rattle.semiring.specs.Costs.{cost, costing, none}
 use Rattle.grammar.specs.declared.refusal.Refusal.{Refusal}
@@ -9,9 +9,10 @@ use Rattle.grammar.specs.Grammars.{Meaning}
 use Rattle.grammar.specs.Derivations.{Tree, leaf, node, leaves, EntriesFromStarts}
 use Rattle.grammar.specs.Totals.{by}
 use Rattle.grammar.specs.Costs.{cost_of}
-use Rattle.chart.specs.declared.entries.Entries.{Entries}
+use Rattle.entries.specs.declared.list.Entries.{Entries}
 use Rattle.chart.specs.Cells.{cell_at}
-use Rattle.chart.specs.Model.{state, ChartStands}
+use Rattle.entries.specs.Model.{state}
+use Rattle.chart.specs.Stands.{ChartStands}
 use Rattle.chart.specs.Reads.{whole_total, total_answer}
 use Rattle.tree.specs.declared.record.Record.{Record}
 use Rattle.tree.specs.Rivals.{ByRivals, ByFirst}

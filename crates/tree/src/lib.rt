@@ -3,7 +3,7 @@
 
 ghost use Rattle.std.specs.Prelude.{◌≡◌, length, take, drop, IfOk, MatchResult};
 ghost use Rattle.semiring.specs.Costs.{cost};
-ghost use Rattle.chart.specs.Model.{ChartStands};
+ghost use Rattle.chart.specs.Stands.{ChartStands};
 ghost use Rattle.tree.specs.Trees.{chart_answer, ChartCheapest, TellsNone, ChartEvery};
 
 use chart::chart::Chart;
@@ -11,6 +11,7 @@ use grammar::grammar::Grammar;
 use grammar::refusal::Refusal;
 use grammar::weighing::Weighing;
 use node::Node;
+use reads::len;
 use record::Record;
 use semiring::cost::Cost;
 use starts::{first_start, node_count};
@@ -39,7 +40,7 @@ pub fn tree<G: Grammar, W: Weighing<Value = Cost>>(
     ensures every { ChartStands cost (W.weight weighing.now) (G.meaning grammar.now) chart.now.entries chart.now.slots.cells.now → ChartEvery (W.weight weighing.now) (G.meaning grammar.now) chart.now.entries chart.now.slots.cells.now }
 {
     let total = chart.total(grammar)?;
-    let count = chart.len();
+    let count = len(chart);
     let nodes = node_count(total, count, records.len())?;
     match first_start(chart, grammar, count, total.value) {
         Some(start) => {

@@ -1,11 +1,11 @@
 // What the tree reads of its chart: cells and entries in use.
-ghost use Rattle.std.specs.Prelude.{◌≡◌, ◌<◌, ◌≤◌, slice_index};
+ghost use Rattle.std.specs.Prelude.{◌≡◌, ◌<◌, ◌≤◌, length, slice_index};
 ghost use Rattle.semiring.specs.Costs.{cost};
 ghost use Rattle.chart.specs.Cells.{cell_at};
-ghost use Rattle.chart.specs.Model.{state};
+ghost use Rattle.entries.specs.Model.{state};
 
 use chart::chart::Chart;
-use chart::entry::Entry;
+use entries::entry::Entry;
 use semiring::cost::Cost;
 
 // The value of a cell in use.
@@ -21,12 +21,19 @@ pub(crate) fn cell(chart: &Chart<'_, Cost>, begin: usize, end: usize, nontermina
     }
 }
 
+// How many entries the chart has.
+pub(crate) fn len(chart: &Chart<'_, Cost>) -> usize
+    ensures { result ≡ length (state chart.now.entries).entries }
+{
+    chart.entries().len()
+}
+
 // The entry at a place in use.
 pub(crate) fn entry(chart: &Chart<'_, Cost>, place: usize) -> Entry
     requires { place < chart.now.entries.count }
     ensures { result.bits ≡ slice_index (state chart.now.entries).entries place }
 {
-    match chart.entry(place) {
+    match chart.entries().entry(place) {
         Some(entry) => entry,
         None => unreachable(),
     }

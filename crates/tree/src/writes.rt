@@ -3,7 +3,7 @@ ghost use Rattle.std.specs.Prelude.{◌≡◌, ℕ, ◌+◌, ◌-◌, ◌*◌, �
 ghost use Rattle.semiring.specs.Costs.{cost};
 ghost use Rattle.grammar.specs.Totals.{by};
 ghost use Rattle.chart.specs.Cells.{cell_at};
-ghost use Rattle.chart.specs.Model.{state};
+ghost use Rattle.entries.specs.Model.{state};
 ghost use Rattle.tree.specs.Rivals.{Rival};
 ghost use Rattle.tree.specs.Steps.{Chose, Wrote};
 

@@ -1,10 +1,10 @@
-use Rattle.std.proofs.Common.{◌≡◌, length, take, drop, Ok, Err, sym, refl, ap, ◌∙◌, subst, arith, rules}
-use Rattle.semiring.specs.Costs.{cost}
+use Rattle.std.proofs.Common.{◌≡◌, ℕ, ◌+◌, ◌-◌, ◌*◌, ◌<◌, ◌≤◌, length, take, drop, Ok, Err, sym, refl, ap, ◌∙◌, subst, arith, rules}
+use Rattle.semiring.specs.Costs.{cost, none}
 use Rattle.grammar.specs.Totals.{by}
 use Rattle.chart.specs.Cells.{cell_at}
-use Rattle.chart.specs.Model.{state}
-use Rattle.chart.proofs.Listing.{size}
-use Rattle.chart.proofs.Calls.{on_err}
+use Rattle.entries.specs.Model.{state}
+use Rattle.entries.proofs.Listing.{size}
+use Rattle.entries.proofs.Judging.{on_err}
 use Rattle.tree.specs.Trees.{tree_answer, chart_answer}
 use Rattle.tree.specs.Steps.{StartAttains}
 use Rattle.tree.proofs.Puts.{put_front, put_back}

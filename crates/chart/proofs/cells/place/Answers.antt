@@ -1,5 +1,6 @@
-use Rattle.std.proofs.Common.{refl}
-use Rattle.chart.specs.Cells.{place, triangle}
+use Rattle.std.proofs.Common.{refl, arith}
+use Rattle.entries.specs.Spans.{triangle}
+use Rattle.chart.specs.Cells.{place}
 use Rattle.chart.proofs.Places.{inside}
 use Rattle.chart.proofs.cells.place.Goals as goal
 

@@ -1,21 +1,20 @@
-use Rattle.std.proofs.Common.{◌≡◌, ◌+◌, ◌-◌, ◌<◌, map, length, get_or, sym, ap, ◌∙◌, subst, arith}
+use Rattle.std.proofs.Common.{◌≡◌, ◌+◌, ◌-◌, ◌<◌, ◌≤◌, map, length, get_or, sym, refl, ap, ◌∙◌, subst, arith}
 use Rattle.grammar.specs.Totals.{by}
-use Rattle.chart.specs.Model.{bits_of}
-use Rattle.std.proofs.lemmas.List.{get_or-map}
+use Rattle.entries.specs.Model.{bits_of}
+use Rattle.std.proofs.lemmas.List.{get_or-map, length-map}
 use Rattle.chart.specs.Cells.{Room}
 use Rattle.chart.specs.Columns.{Refilled}
 use Rattle.chart.proofs.Places.{room_before}
 use Rattle.chart.proofs.Refills.{refilled_none, refilled_more}
 use Rattle.chart.proofs.columns.refill.Goals as goal
 
-pub fill_column-requires : goal.fill_column-requires
-fill_column-requires g c =
+pub refill_column-requires : goal.refill_column-requires
+refill_column-requires g c =
     let m = g.G.Grammar.meaning c.args.grammar.now in
     record {
       room = subst (Room m.nonterminals c.loop-end.end) (sym c.loop-end.auto.slots)
           (room_before m.nonterminals c.loop-end.end (length c.args.entries.now) (length c.args.slots.now) (omega arith) c.requires.room);
-      some = omega arith;
-      part = omega arith;
+      covers = omega arith;
     }
 
 pub loop-end-init : goal.loop-end-init
@@ -31,8 +30,8 @@ loop-end-preserved g c =
     let x = c.index-entries-end.result in
     let last : x.bits ≡ get_or (map bits_of entries) k 0 = ap bits_of c.index-entries-end.is ∙ sym (get_or-map bits_of entries k x 0 here) in
     refilled_more g.met.W.Value.Semiring.laws (by (g.W.Weighing.weight c.args.weighing.now)) (g.G.Grammar.meaning c.args.grammar.now) (g.G.Grammar.shown c.args.grammar.now)
-    (map bits_of c.args.entries.now) c.args.k c.args.slots.now c.loop-end.end _ c.loop-end.slots c.fill_column.new.slots
-    (omega arith) last c.loop-end.invariant c.fill_column.ensures
+    (map bits_of c.args.entries.now) c.args.k c.args.slots.now c.loop-end.end _ c.loop-end.slots c.refill_column.new.slots
+    (omega arith) last c.loop-end.invariant c.refill_column.ensures
 
 pub returns : goal.returns
 returns g c =

@@ -1,6 +1,6 @@
 use Rattle.std.proofs.Common.{map}
 use Rattle.grammar.specs.Totals.{by}
-use Rattle.chart.specs.Model.{bits_of}
+use Rattle.entries.specs.Model.{bits_of}
 use Rattle.chart.specs.Columns.{Refilled}
 use Rattle.chart.proofs.columns.refill.Given as goal
 

@@ -1,7 +1,7 @@
 use Rattle.std.proofs.Common.{◌≡◌, ◌≤◌, length, IfOk, ap, ◌∙◌, subst, arith}
 use Rattle.semiring.specs.Counts.{count}
-use Rattle.chart.specs.Model.{terms, state, empty}
-use Rattle.chart.proofs.Listing.{size}
+use Rattle.entries.specs.Model.{terms, state, empty}
+use Rattle.entries.proofs.Listing.{size}
 use Rattle.runs.specs.Runs.{run}
 use Rattle.job.specs.Reports.{accepted, UnitTotal}
 use Rattle.job.proofs.asking.ask.Goals as goal

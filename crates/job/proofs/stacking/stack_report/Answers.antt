@@ -1,6 +1,6 @@
 use Rattle.std.proofs.Common.{◌≡◌, List, sym, ap, ◌∙◌, subst}
 use Rattle.grammar.specs.Grammars.{Meaning}
-use Rattle.chart.specs.declared.call.Call.{Call}
+use Rattle.entries.specs.declared.call.Call.{Call}
 use Rattle.automata.specs.Held.{table_machine}
 use Rattle.layers.specs.Held.{banned, recorder}
 use Rattle.layers.specs.Intersection.{intersection}

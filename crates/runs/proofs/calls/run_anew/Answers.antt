@@ -1,5 +1,5 @@
 use Rattle.std.proofs.Common.{◌≡◌, [], length, get_or, is_some, Ok, sym, ap, ◌∙◌, ap₂, arith}
-use Rattle.chart.specs.Model.{State, state, terms}
+use Rattle.entries.specs.Model.{State, state, terms}
 use Rattle.runs.specs.Runs.{run, answers}
 use Rattle.runs.proofs.calls.run_anew.Goals as goal
 

@@ -1,6 +1,6 @@
 use Rattle.std.proofs.Common.{◌≡◌, ℕ, ◌+◌, ◌<◌, ◌≤◌, length, get_or, Ok, sym, ap, ◌∙◌, subst, ap₂, arith}
-use Rattle.chart.specs.declared.call.Call.TheVariants.{Clear}
-use Rattle.chart.specs.Model.{state, terms, step, answer, Did}
+use Rattle.entries.specs.declared.call.Call.TheVariants.{Clear}
+use Rattle.entries.specs.Model.{state, terms, step, answer, Did}
 use Rattle.runs.specs.Runs.{answers}
 use Rattle.runs.proofs.Lists.{run_more, run_all, answers_at, written, no_room, kept}
 use Rattle.runs.proofs.calls.run_calls.Goals as goal

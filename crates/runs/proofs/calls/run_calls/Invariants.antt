@@ -1,5 +1,6 @@
 use Rattle.std.proofs.Common.{◌≡◌, ℕ, ◌<◌, ◌≤◌, length, get_or, take, is_some, Ok}
-use Rattle.chart.specs.Model.{state, terms, ChartStands}
+use Rattle.entries.specs.Model.{state, terms}
+use Rattle.chart.specs.Stands.{ChartStands}
 use Rattle.runs.specs.Runs.{run, answers}
 use Rattle.runs.proofs.calls.run_calls.Given as goal
 

@@ -1,6 +1,6 @@
 use Rattle.std.proofs.Common.{◌≡◌, [], length, is_some, Ok, sym, refl, ap, ◌∙◌, subst, arith}
-use Rattle.chart.specs.declared.call.Call.TheVariants.{TakeBack}
-use Rattle.chart.specs.Model.{State, state, terms, answer, Did}
+use Rattle.entries.specs.declared.call.Call.TheVariants.{TakeBack}
+use Rattle.entries.specs.Model.{State, state, terms, answer, Did}
 use Rattle.runs.proofs.Marks.{take_back_mark, keep_mark, withdraw_mark}
 use Rattle.runs.proofs.perform.perform.Goals as goal
 

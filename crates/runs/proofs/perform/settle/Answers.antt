@@ -1,5 +1,5 @@
 use Rattle.std.proofs.Common.{ap, ◌∙◌}
-use Rattle.chart.specs.Model.{State, state, Terms}
+use Rattle.entries.specs.Model.{State, state, Terms}
 use Rattle.runs.proofs.Marks.{keep_entries}
 use Rattle.runs.proofs.perform.settle.Goals as goal
 

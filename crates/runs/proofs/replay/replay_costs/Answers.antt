@@ -4,7 +4,7 @@ use Rattle.grammar.specs.Costs.{by_cost}
 use Rattle.grammar.specs.Derivations.{EntriesFromStarts}
 use Rattle.grammar.specs.Totals.{TotalOf, weight_of}
 use Rattle.chart.specs.Cells.{cell_at}
-use Rattle.chart.specs.Model.{State, state, empty, terms}
+use Rattle.entries.specs.Model.{State, state, empty, terms}
 use Rattle.chart.specs.Reads.{whole_total}
 use Rattle.runs.specs.Runs.{run}
 use Rattle.runs.specs.Trees.{TreeAfter}

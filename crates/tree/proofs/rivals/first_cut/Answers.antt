@@ -1,7 +1,7 @@
-use Rattle.std.proofs.Common.{sym, subst}
+use Rattle.std.proofs.Common.{◌≡◌, sym, subst}
 use Rattle.semiring.specs.Costs.{cost}
 use Rattle.chart.specs.Cells.{cell_at}
-use Rattle.chart.specs.Model.{state}
+use Rattle.entries.specs.Model.{state}
 use Rattle.tree.specs.Rivals.{Attains}
 use Rattle.tree.specs.Steps.{FirstOf}
 use Rattle.tree.proofs.rivals.first_cut.Goals as goal

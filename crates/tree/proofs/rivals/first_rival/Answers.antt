@@ -1,7 +1,7 @@
 use Rattle.semiring.specs.Costs.{cost}
 use Rattle.grammar.specs.Totals.{by}
 use Rattle.chart.specs.Cells.{cell_at}
-use Rattle.chart.specs.Model.{state}
+use Rattle.entries.specs.Model.{state}
 use Rattle.tree.specs.Rivals.{Rival}
 use Rattle.tree.specs.Steps.{HasRival}
 use Rattle.tree.proofs.Choosing.{picked_first}

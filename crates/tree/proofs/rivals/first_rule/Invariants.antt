@@ -2,7 +2,7 @@ use Rattle.std.proofs.Common.{ℕ, ◌<◌}
 use Rattle.semiring.specs.Costs.{cost}
 use Rattle.grammar.specs.Totals.{by}
 use Rattle.chart.specs.Cells.{cell_at}
-use Rattle.chart.specs.Model.{state}
+use Rattle.entries.specs.Model.{state}
 use Rattle.tree.specs.Steps.{HasRival}
 use Rattle.tree.proofs.rivals.first_rule.Given as goal
 

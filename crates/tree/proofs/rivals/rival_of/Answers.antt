@@ -1,4 +1,4 @@
-use Rattle.std.proofs.Common.{sym, ◌∙◌, subst}
+use Rattle.std.proofs.Common.{◌≡◌, sym, ◌∙◌, subst}
 use Rattle.chart.specs.Cells.{Names}
 use Rattle.chart.proofs.Rows.{names_of}
 use Rattle.tree.proofs.rivals.rival_of.Goals as goal

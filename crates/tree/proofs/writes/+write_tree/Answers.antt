@@ -1,9 +1,9 @@
-use Rattle.std.proofs.Common.{ℕ, ◌+◌, ◌<◌, ◌≤◌, List, length, sym, subst, arith}
+use Rattle.std.proofs.Common.{◌≡◌, ℕ, ◌+◌, ◌<◌, ◌≤◌, List, length, sym, subst, arith}
 use Rattle.semiring.specs.Costs.{cost}
 use Rattle.grammar.specs.Totals.{by}
 use Rattle.chart.specs.Cells.{cell_at}
-use Rattle.chart.specs.Model.{state}
-use Rattle.chart.proofs.Listing.{size}
+use Rattle.entries.specs.Model.{state}
+use Rattle.entries.proofs.Listing.{size}
 use Rattle.tree.specs.declared.node.Node.{Node}
 use Rattle.tree.specs.declared.record.Record.{Record}
 use Rattle.tree.specs.Steps.{node_at, Wrote}

@@ -1,8 +1,8 @@
-use Rattle.std.proofs.Common.{arith}
+use Rattle.std.proofs.Common.{◌≡◌, ℕ, ◌<◌, arith}
 use Rattle.semiring.specs.Costs.{cost}
 use Rattle.grammar.specs.Totals.{by}
 use Rattle.chart.specs.Cells.{cell_at}
-use Rattle.chart.specs.Model.{state}
+use Rattle.entries.specs.Model.{state}
 use Rattle.tree.proofs.Choosing.{wide_cut, parts_below}
 use Rattle.tree.proofs.writes.choose.Goals as goal
 

@@ -1,4 +1,5 @@
-use Rattle.std.proofs.Common.{length, arith}
+use Rattle.std.proofs.Common.{length, sym, subst, arith}
+use Rattle.chart.specs.Cells.{Room}
 use Rattle.chart.proofs.Places.{room_before}
 use Rattle.chart.proofs.chart.Chart.cell.Goals as goal
 
@@ -6,8 +7,10 @@ pub cell-requires : goal.cell-requires
 cell-requires g c =
     let t = c.args.self.now in
     let e = t.entries in
+    let slots = length t.slots.cells.now in
     record {
-      room = room_before e.nonterminals c.args.end e.count (length t.slots.cells.now) (omega arith) (record { few = e.few; narrow = e.narrow; fits = t.room });
+      room = subst (λ n. Room n c.args.end slots) (sym c.nonterminals-n.ensures)
+          (room_before e.nonterminals c.args.end e.count slots (omega arith) (record { few = e.few; narrow = t.narrow; fits = t.room }));
       span = omega arith;
       named = omega arith;
     }

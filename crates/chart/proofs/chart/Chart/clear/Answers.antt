@@ -1,9 +1,18 @@
-use Rattle.std.proofs.Common.{length, arith}
-use Rattle.chart.proofs.Fewer.{fewer_room}
+use Rattle.std.proofs.Common.{refl}
+use Rattle.chart.proofs.Fewer.{front_ghosts, front_stands}
 use Rattle.chart.proofs.chart.Chart.clear.Goals as goal
 
-pub invariant_of-self-3 : goal.invariant_of-self-3
-invariant_of-self-3 g c =
+pub returns : goal.returns
+returns g c =
     let t = c.args.self.now in
-    let e = t.entries in
-    record { room = fewer_room e.nonterminals 0 e.count (length t.slots.cells.now) (omega arith) e.few e.narrow t.room }
+    record {
+      did = c.clear.ensures.did;
+      stands = λ w m. front_stands g.S.Semiring.ring w m t.entries c.clear.new.self t.slots.cells.now c.clear.ensures.front;
+      same = refl;
+      named = refl;
+    }
+
+pub invariant_of-self : goal.invariant_of-self
+invariant_of-self g c =
+    let kept = front_ghosts c.args.self.now c.clear.new.self c.clear.ensures.front in
+    record { room = kept.0; narrow = kept.1 }

@@ -1,14 +1,16 @@
-use Rattle.std.proofs.Common.{◌≡◌, ◌+◌, ◌*◌, ◌≤◌, length, set, Ok, Err, sym, refl, ap, ◌∙◌, subst, rules}
-use native.Mathlib.Bridge.{le_prop}
+use Rattle.std.proofs.Common.{◌≡◌, ◌+◌, ◌<◌, ◌≤◌, length, set, Ok, Err, sym, refl, ap, ◌∙◌, subst, arith, rules}
 use Rattle.std.proofs.lemmas.List.{length-set}
 use Rattle.grammar.specs.Spans.{Stands}
 use Rattle.grammar.specs.Totals.{by}
-use Rattle.chart.specs.declared.call.Call.TheVariants.{Replace}
-use Rattle.chart.specs.Cells.{cell_at, triangle, Room}
+use Rattle.entries.specs.declared.call.Call.TheVariants.{Replace}
+use Rattle.entries.specs.Model.{State, state, terms, Did}
+use Rattle.entries.proofs.Fronts.{unmoved}
+use Rattle.entries.proofs.Judging.{on_err}
+use Rattle.entries.proofs.Listing.{size}
+use Rattle.chart.specs.Cells.{cell_at, Room}
 use Rattle.chart.specs.Columns.{Refilled}
-use Rattle.chart.specs.Model.{state, terms, verdict, replace_tests, Did}
-use Rattle.chart.proofs.Calls.{accepted, refused, replace_verdict, on_err}
-use Rattle.chart.proofs.Listing.{size, swapped}
+use Rattle.chart.proofs.Fewer.{front_ghosts, front_stands, same_chart}
+use Rattle.chart.proofs.Growing.{did_move, same_many, room_at}
 use Rattle.chart.proofs.Replacing.{stands_replaced}
 use Rattle.chart.proofs.chart.Chart.replace.Goals as goal
 
@@ -16,17 +18,21 @@ pub refill-requires : goal.refill-requires
 refill-requires g c =
     let t = c.args.self.now in
     let e = t.entries in
+    let f = c.replace.new.self in
     let m = g.G.Grammar.meaning c.args.grammar.now in
-    let inside = c.in_ok-entry.ensures.inside in
-    let own : e.nonterminals ≡ m.nonterminals = sym inside.0 ∙ c.nonterminals.ensures in
+    let slots = length t.slots.cells.now in
+    let done = c.in_ok-replace.ensures in
+    let many = same_many (terms m e.nonterminals slots) e f c.args.k c.args.bits (done.did slots) in
     record {
-      room = subst (λ n. Room n e.count (length t.slots.cells.now)) own (record { few = e.few; narrow = e.narrow; fits = t.room });
-      entry = inside.1;
+      room = subst (λ k. Room m.nonterminals k slots) (sym many)
+          (subst (λ n. Room n e.count slots) (sym done.inside.0) (record { few = e.few; narrow = t.narrow; fits = t.room }));
+      entry = subst (λ k. c.args.k < k) (sym many) done.inside.1;
     }
 
 pub returns : goal.returns
 returns g c =
     let e = c.args.self.now.entries in
+    let f = c.replace.new.self in
     let ring = g.S.Semiring.ring in
     let w = by (g.W.Weighing.weight c.args.weighing.now) in
     let m = g.G.Grammar.meaning c.args.grammar.now in
@@ -35,39 +41,49 @@ returns g c =
     let xs = c.args.self.now.slots.cells.now in
     let ys = c.refill.new.self.cells.now in
     let t = terms m e.nonterminals (length xs) in
-    let let_through = c.in_ok-entry.ensures in
-    let admitted = let_through.admits (length xs) in
-    let said : verdict (replace_tests t e.count e.trial k bits) ≡ Ok tt = search rules in
-    let same : c.in_ok-entry.entry.bits ≡ bits = admitted.1 in
-    let here = swapped e.list e.count k c.in_ok-entry.entry let_through.inside.1 ∙ ap (set (state e).entries k) same in
-    let long : e.count ≡ length (set (state e).entries k bits) = sym (size e) ∙ sym (length-set (state e).entries k bits) in
+    let did = c.in_ok-replace.ensures.did (length xs) in
+    let here : (state f).entries ≡ set (state e).entries k bits = ap (λ (s : State). s.entries) (did_move t e f (Replace k bits) did) in
+    let long : f.count ≡ length (set (state e).entries k bits) = sym (size f) ∙ ap length here in
     record {
-      did = accepted t e _ (Replace k bits) (replace_verdict t e k bits (Ok tt) said) (λ i. record { entries = here i; trial = e.trial }) refl;
+      did = did;
       writes = c.refill.ensures.filled;
       stands = λ before.
           subst (λ es. Stands ring w m es (cell_at ring m.nonterminals ys)) (sym here)
           (stands_replaced g.met.S.Semiring.laws w m (g.G.Grammar.shown c.args.grammar.now) (state e).entries k bits xs ys
-          (subst (λ n. Refilled ring w m (set (state e).entries k bits) k (n + 1) xs ys) long (subst (λ l. Refilled ring w m l k (e.count + 1) xs ys) here c.refill.ensures.filled)) before);
+          (subst (λ n. Refilled ring w m (set (state e).entries k bits) k (n + 1) xs ys) long (subst (λ l. Refilled ring w m l k (f.count + 1) xs ys) here c.refill.ensures.filled)) before);
       long = c.refill.ensures.long;
       named = c.refill.ensures.named;
     }
 
-pub returns-in_err-entry : goal.returns-in_err-entry
-returns-in_err-entry g c =
+pub returns-in_err-replace : goal.returns-in_err-replace
+returns-in_err-replace g c =
     let e = c.args.self.now.entries in
+    let f = c.replace.new.self in
     let m = g.G.Grammar.meaning c.args.grammar.now in
-    let bits = c.args.bits in
-    let k = c.args.k in
     let xs = c.args.self.now.slots.cells.now in
-    let t = terms m e.nonterminals (length xs) in
-    let why = c.in_err-entry.field-0.0 in
-    let admitted = c.in_err-entry.ensures.admits (length xs) in
-    let said : verdict (replace_tests t e.count e.trial k bits) ≡ Err why = search rules in
+    let why = c.in_err-replace.field-0.0 in
+    let done = c.in_err-replace.ensures in
     let is : c.from_residual.result ≡ Err why = search rules in
     record {
-      did = subst (λ r. Did t e (Replace k bits) r e) (sym is) (refused t e (Replace k bits) why (replace_verdict t e k bits (Err why) said));
-      writes = on_err _ _ c.from_residual.result why is (ap (λ (p : triangle (e.count + 1) * e.nonterminals ≤ length xs). record { slots = c.args.self.now.slots; entries = e; room = p }) (le_prop _ _));
-      stands = λ before. before;
+      did = subst (λ r. Did (terms m e.nonterminals (length xs)) e (Replace c.args.k c.args.bits) r f) (sym is) (done.did (length xs));
+      writes = on_err _ _ c.from_residual.result why is (same_chart _ c.args.self.now refl done.inside);
+      stands = front_stands g.S.Semiring.ring (g.W.Weighing.weight c.args.weighing.now) m e f xs (unmoved e f done.inside);
       long = refl;
       named = refl;
     }
+
+pub invariant_of-self : goal.invariant_of-self
+invariant_of-self g c =
+    let kept = front_ghosts c.args.self.now c.replace.new.self (unmoved _ _ c.in_err-replace.ensures.inside) in
+    record { room = kept.0; narrow = kept.1 }
+
+pub invariant_of-self-2 : goal.invariant_of-self-2
+invariant_of-self-2 g c =
+    let t = c.args.self.now in
+    let e = t.entries in
+    let f = c.replace.new.self in
+    let m = g.G.Grammar.meaning c.args.grammar.now in
+    let slots = length t.slots.cells.now in
+    let did = c.in_ok-replace.ensures.did slots in
+    let many = same_many (terms m e.nonterminals slots) e f c.args.k c.args.bits did in
+    record { room = room_at (sym many) (sym did.own) (sym c.refill.ensures.long) t.room; narrow = subst (λ n. n ≤ 4096) (sym did.own) t.narrow }

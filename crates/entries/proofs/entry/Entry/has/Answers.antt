@@ -1,4 +1,4 @@
-use Rattle.std.proofs.Common.{◌%◌, ◌^◌, ◌<◌, ◌≤◌, eqb, sym, ap, ◌∙◌, arith, pow_mono, le-ltb}
+use Rattle.std.proofs.Common.{◌≡◌, ◌/◌, ◌%◌, ◌^◌, ◌<◌, ◌≤◌, eqb, sym, ap, ◌∙◌, arith, pow_mono, le-ltb}
 use native.Mathlib.Nat.{div-eq_of_lt}
 use Rattle.grammar.specs.Derivations.{has}
 use Rattle.entries.proofs.entry.Entry.has.Goals as goal

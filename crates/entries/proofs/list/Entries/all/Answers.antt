@@ -1,4 +1,4 @@
-use Rattle.std.proofs.Common.{map, length, get_or, sym, ap, ◌∙◌}
+use Rattle.std.proofs.Common.{◌≡◌, ◌<◌, List, map, length, get_or, take, sym, ap, ◌∙◌, arith}
 use Rattle.std.proofs.lemmas.List.{length-map, get_or-map}
 use Rattle.entries.specs.Model.{bits_of}
 use Rattle.entries.proofs.Listing.{size}

@@ -1,4 +1,4 @@
-use Rattle.std.proofs.Common.{◌≡◌, ℕ, set, Ok, Err, sym, refl, ap, ◌∙◌, subst, rules}
+use Rattle.std.proofs.Common.{◌≡◌, ℕ, set, Ok, Err, sym, refl, ap, ◌∙◌, subst, arith, rules}
 use Rattle.entries.specs.declared.call.Call.TheVariants.{Replace}
 use Rattle.entries.specs.Model.{state, terms, verdict, replace_tests, does, Did}
 use Rattle.entries.proofs.Judging.{accepted, refused, replace_verdict, on_err}

@@ -1,0 +1,44 @@
+-- One entry more, or another in its place: how many there are then, and that there is room for them. Assumes nothing.
+use Rattle.std.proofs.Common.{◌≡◌, ℕ, ◌+◌, ◌*◌, ◌≤◌, List, [], ◌∷◌, ◌++◌, length, Ok, Err, Result, sym, ap, ◌∙◌, subst, arith}
+use Rattle.std.proofs.lemmas.List.{length_push, length-set}
+use Rattle.grammar.specs.Grammars.{Meaning, Shown}
+use Rattle.entries.specs.declared.entry.Entry.{Entry}
+use Rattle.entries.specs.declared.list.Entries.{Entries}
+use Rattle.entries.specs.declared.call.Call.{Call}
+use Rattle.entries.specs.declared.call.Call.TheVariants.{Append, Replace}
+use Rattle.entries.specs.Spans.{triangle}
+use Rattle.entries.specs.Model.{State, state, Terms, Added, after, does, Did}
+use Rattle.entries.proofs.Listing.{size}
+use Rattle.chart.specs.Cells.{Room}
+
+-- the state after an accepted call
+pub did_move : (t : Terms) (e f : Entries) (call : Call) → Did t e call (Ok tt) f → state f ≡ does (state e) call
+did_move t e f call did = did.moved ∙ ap (λ r. after r (state e) call) (sym did.answered)
+
+module _ (t : Terms) (e f : Entries) (bits : ℕ) (did : Did t e (Append bits) (Ok tt) f) where
+  -- the entries after an accepted append
+  pub more_entries : (state f).entries ≡ (state e).entries ++ (bits ∷ [])
+  more_entries = ap (λ (s : State). s.entries) (did_move t e f (Append bits) did)
+
+  pub one_more : f.count ≡ e.count + 1
+  one_more = sym (size f) ∙ ap length more_entries ∙ length_push (state e).entries bits ∙ ap (λ k. k + 1) (size e)
+
+  -- there is room for the spans of one entry more
+  pub room_more : (m : Meaning) (slots : ℕ) (entry : Entry) → Shown m → Added m e.nonterminals slots e.count bits entry → Room m.nonterminals f.count slots
+  room_more m slots entry shown added =
+      let next : e.count + 2 ≡ f.count + 1 = omega (arith, one_more) in
+      record {
+        few = f.few;
+        narrow = shown.few;
+        fits = subst (λ k. triangle k * m.nonterminals ≤ slots) next (subst (λ n. triangle (e.count + 2) * n ≤ slots) (sym added.same) added.room);
+      }
+
+-- a replaced entry leaves as many as there were
+pub same_many : (t : Terms) (e f : Entries) (k bits : ℕ) → Did t e (Replace k bits) (Ok tt) f → f.count ≡ e.count
+same_many t e f k bits did =
+    sym (size f) ∙ ap (λ (s : State). length s.entries) (did_move t e f (Replace k bits) did) ∙ length-set (state e).entries k bits ∙ size e
+
+-- room, where the numbers are called otherwise
+pub room_at : {count count' n n' slots slots' : ℕ} → count ≡ count' → n ≡ n' → slots ≡ slots' → triangle (count + 1) * n ≤ slots → triangle (count' + 1) * n' ≤ slots'
+room_at {count} {count'} {n} {n'} {slots} {slots'} p q r fits =
+    subst (λ k. triangle (k + 1) * n' ≤ slots') p (subst (λ k. triangle (count + 1) * k ≤ slots') q (subst (λ k. triangle (count + 1) * n ≤ k) r fits))

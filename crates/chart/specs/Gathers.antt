@@ -1,0 +1,38 @@
+-- The rules of a grammar, gathered into a list. Assumes nothing.
+use Rattle.std.specs.Prelude.{◌≡◌, ℕ, zero, suc, ◌+◌, ◌<◌, ◌≤◌, List, [], ◌∷◌, ◌++◌, length, take, Some, None, Option, slice_set}
+use Rattle.grammar.specs.declared.rule.Rule.{Rule}
+use Rattle.grammar.specs.Grammars.{Meaning}
+use Rattle.chart.specs.Cells.{Names}
+use Rattle.chart.specs.declared.gathered.Gathered.{Gathered}
+
+-- a rule names only nonterminals below n
+abbrev pub Named : ℕ → Rule → Type 0
+Named n r = (r.lhs < n) × Names n r.expansion
+
+-- a list with the rule that there may be at its end
+abbrev pub pushed : List Rule → Option Rule → List Rule
+pushed rules None = rules
+pushed rules (Some r) = rules ++ (r ∷ [])
+
+-- the rules of the numbers below k, in order
+unfoldable pub rules_below : Meaning → ℕ → List Rule
+rules_below m zero = []
+rules_below m (suc k) = pushed (rules_below m k) (m.rule k)
+
+-- no rules yet
+pub record Blank (g : Gathered) : Type 0 where
+  pub sized : length g.list ≡ 256
+  pub count : g.count ≡ 0
+  pub next : g.next ≡ 0
+
+-- with the rule that there may be at the next number
+abbrev pub taken : Gathered → Option Rule → Gathered
+taken g None = record { list = g.list; count = g.count; next = g.next + 1 }
+taken g (Some r) = record { list = slice_set g.list g.count r; count = g.count + 1; next = g.next + 1 }
+
+-- the rules of the numbers below `next` are at hand
+pub record Gathers (m : Meaning) (g : Gathered) : Type 0 where
+  pub sized : length g.list ≡ 256
+  pub few : g.count ≤ 256
+  pub below : g.next ≤ m.bound
+  pub rules : take g.count g.list ≡ rules_below m g.next

@@ -20,10 +20,7 @@ pub(crate) fn proper_entry(bits: u32, codes: u32) -> Result<Entry, Refusal>
     if is_improper(bits, codes) {
         return Err(Refusal::BadEntry);
     }
-    match Entry::new(bits) {
-        Some(entry) => Ok(entry),
-        None => Err(Refusal::BadEntry),
-    }
+    Entry::new(bits).ok_or(Refusal::BadEntry)
 }
 
 // How many spans end before `end`.

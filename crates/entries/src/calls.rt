@@ -1,6 +1,6 @@
 // The calls: each is tested in order, and does what it does where no test applies.
-ghost use Rattle.std.specs.Prelude.{◌≡◌, ℕ, ◌<◌, true, false, Ok, MatchResult, OnOk};
-ghost use Rattle.entries.specs.Model.{Terms, terms, verdict, entry_tests, replace_tests, state, Admits, Added, Did, Front, Fields, plain};
+ghost use Rattle.std.specs.Prelude.{◌≡◌, ℕ, ◌<◌, true, false, not, [], ◌∷◌, Ok, MatchResult, OnOk, ◌==◌};
+ghost use Rattle.entries.specs.Model.{Terms, terms, test, verdict, entry_tests, replace_tests, state, Admits, Added, Did, Front, Fields, plain};
 ghost use Rattle.entries.specs.declared.call.Call.{Call};
 
 use crate::admission::{is_full, proper_entry};
@@ -12,38 +12,48 @@ use grammar::grammar::Grammar;
 use grammar::refusal::Refusal;
 
 impl Entries {
-    // The bits as an entry that may be added.
-    fn admit(&self, n: u32, codes: u32, slots: usize, bits: u32) -> Result<Entry, Refusal>
-        ensures { Admits (verdict (entry_tests (record { own = self.now.nonterminals; slots = slots; shown = n; codes = codes }) self.now.count self.now.trial bits)) bits result }
+    // Refuses a change while a trial is open.
+    fn closed(&self) -> Result<(), Refusal>
+        ensures { result ≡ verdict (test self.now.trial Refusal.TrialOpen ∷ []) }
     {
-        if n != self.nonterminals {
-            return Err(Refusal::OtherGrammar);
-        }
         if self.trial {
             return Err(Refusal::TrialOpen);
         }
-        let entry = proper_entry(bits, codes)?;
-        if is_full(self.count, n, slots) {
+        Ok(())
+    }
+
+    // Refuses a grammar with another number of nonterminals, and a change while a trial is open.
+    fn open_to<G: Grammar>(&self, grammar: &G) -> Result<(), Refusal>
+        ensures { result ≡ verdict (test (not ((G.meaning grammar.now).nonterminals == self.now.nonterminals)) Refusal.OtherGrammar ∷ test self.now.trial Refusal.TrialOpen ∷ []) }
+    {
+        if grammar.nonterminals() != self.nonterminals {
+            return Err(Refusal::OtherGrammar);
+        }
+        self.closed()
+    }
+
+    // The bits as an entry that may be added.
+    fn admit<G: Grammar>(&self, grammar: &G, slots: usize, bits: u32) -> Result<Entry, Refusal>
+        ensures { Admits (verdict (entry_tests (terms (G.meaning grammar.now) self.now.nonterminals slots) self.now.count self.now.trial bits)) bits result }
+    {
+        self.open_to(grammar)?;
+        let entry = proper_entry(bits, grammar.codes())?;
+        if is_full(self.count, grammar.nonterminals(), slots) {
             return Err(Refusal::NoRoom);
         }
         Ok(entry)
     }
 
     // The bits as an entry that may take the place of entry `k`.
-    fn admit_at(&self, n: u32, codes: u32, k: usize, bits: u32) -> Result<Entry, Refusal>
-        ensures admits { (slots : ℕ) → Admits (verdict (replace_tests (record { own = self.now.nonterminals; slots = slots; shown = n; codes = codes }) self.now.count self.now.trial k bits)) bits result }
-        ensures inside { OnOk result ((n ≡ self.now.nonterminals) × (k < self.now.count)) }
+    fn admit_at<G: Grammar>(&self, grammar: &G, k: usize, bits: u32) -> Result<Entry, Refusal>
+        ensures admits { (slots : ℕ) → Admits (verdict (replace_tests (terms (G.meaning grammar.now) self.now.nonterminals slots) self.now.count self.now.trial k bits)) bits result }
+        ensures inside { OnOk result (((G.meaning grammar.now).nonterminals ≡ self.now.nonterminals) × (k < self.now.count)) }
     {
-        if n != self.nonterminals {
-            return Err(Refusal::OtherGrammar);
-        }
-        if self.trial {
-            return Err(Refusal::TrialOpen);
-        }
+        self.open_to(grammar)?;
         if k >= self.count {
             return Err(Refusal::NoEntry);
         }
-        proper_entry(bits, codes)
+        proper_entry(bits, grammar.codes())
     }
 
     // Adds an entry at the end, and answers it.
@@ -56,7 +66,7 @@ impl Entries {
         ensures did { Did (terms (G.meaning grammar.now) self.old.nonterminals slots) self.old (Call.Append bits) (plain result) self.new }
         ensures added { MatchResult result (Added (G.meaning grammar.now) self.old.nonterminals slots self.old.count bits) (λ _. self.new ≡ self.old) }
     {
-        let entry = self.admit(grammar.nonterminals(), grammar.codes(), slots, bits)?;
+        let entry = self.admit(grammar, slots, bits)?;
         self.push(entry);
         Ok(entry)
     }
@@ -66,7 +76,7 @@ impl Entries {
         ensures did { (slots : ℕ) → Did (terms (G.meaning grammar.now) self.old.nonterminals slots) self.old (Call.Replace k bits) result self.new }
         ensures inside { MatchResult result (λ _. ((G.meaning grammar.now).nonterminals ≡ self.old.nonterminals) × (k < self.old.count)) (λ _. self.new ≡ self.old) }
     {
-        let entry = self.admit_at(grammar.nonterminals(), grammar.codes(), k, bits)?;
+        let entry = self.admit_at(grammar, k, bits)?;
         self.put(k, entry);
         Ok(())
     }
@@ -76,9 +86,7 @@ impl Entries {
         ensures did { (t : Terms) → Did t self.old Call.TakeBack result self.new }
         ensures front { Front self.old self.new }
     {
-        if self.trial {
-            return Err(Refusal::TrialOpen);
-        }
+        self.closed()?;
         if self.count == 0 {
             return Err(Refusal::NoEntry);
         }

@@ -14,14 +14,14 @@ returns-then-len-eq0 g c =
     let e = c.args.self.now.entries in
     let xs = c.args.self.now.slots.cells.now in
     let ring = g.S.Semiring.ring in
-    let r : Result g.row.S.Denot Refusal = Ok c.zero-sum.result in
-    let is : r ≡ total_answer ring m e.nonterminals e.count xs =
-    answered ring m e.nonterminals e.count xs c.zero-sum.result (sym c.nonterminals.ensures ∙ c.if-nonterminals-n.false ∙ c.nonterminals-n.ensures)
-    (c.zero-sum.ensures ∙ sym (none_whole ring m e.count xs (sym c.len.ensures.count ∙ c.if-len-eq0.true))) in
-    record { is = is; total = λ w. answer_stands g.met.S.Semiring.laws (by w) m (g.G.Grammar.shown c.args.grammar.now) e xs r is }
+    let own : m.nonterminals ≡ e.nonterminals = cc in
+    let none : e.count ≡ 0 = cc in
+    let whole = none_whole ring m e.count xs none in
+    let is = answered ring m e.nonterminals e.count xs _ own cc in
+    record { is = is; total = λ w. answer_stands g.met.S.Semiring.laws (by w) m (g.G.Grammar.shown c.args.grammar.now) e xs _ is }
 
 pub loop-a-init : goal.loop-a-init
-loop-a-init g c = c.zero-sum.ensures ∙ sym (sum_none g.S.Semiring.ring _)
+loop-a-init g c = rw sum_none cc
 
 pub loop-a-preserved : goal.loop-a-preserved
 loop-a-preserved g c =

@@ -21,7 +21,7 @@ returns g c =
     let moved : state f ≡ does (state e) (Replace k bits) = state_of f c.put.ensures ∙ (λ i. record { entries = here i; trial = e.trial }) in
     record {
       did = λ slots. accepted (terms m e.nonterminals slots) e f (Replace k bits) (replace_verdict (terms m e.nonterminals slots) e k bits (Ok tt) (said slots)) moved c.put.ensures.own_is;
-      inside = (sym c.nonterminals.ensures ∙ through.inside.0, through.inside.1);
+      inside = through.inside;
     }
 
 pub returns-in_err-entry : goal.returns-in_err-entry

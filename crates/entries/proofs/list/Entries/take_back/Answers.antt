@@ -11,14 +11,14 @@ pub returns : goal.returns
 returns c =
     let e = c.args.self.now in
     let f = c.pop.new.self in
-    let said : (t : Terms) → answer t (state e) TakeBack ≡ Ok tt = λ t.
-    cond-false e.trial _ _ c.if-self.false ∙ cond-false (eqb (length (state e).entries) 0) _ _ (ne_eqb _ 0 (λ z. c.if-self-eq0.false (sym (size e) ∙ z))) in
+    let many = size e in
+    let said : (t : Terms) → answer t (state e) TakeBack ≡ Ok tt = λ t. search rules in
     let moved : state f ≡ does (state e) TakeBack = state_of f c.pop.ensures ∙ (λ i. record { entries = shorter e i; trial = e.trial }) in
     let did : (t : Terms) → Did t e TakeBack (Ok tt) f = λ t. accepted t e f TakeBack (said t) moved c.pop.ensures.own_is in
     record { did = did; front = taken_back e f (Ok tt) did }
 
-pub returns-then-self : goal.returns-then-self
-returns-then-self c = record { did = search rules; front = unmoved _ _ refl }
+pub returns-in_err-closed : goal.returns-in_err-closed
+returns-in_err-closed c = record { did = search rules; front = unmoved _ _ refl }
 
 pub returns-then-self-eq0 : goal.returns-then-self-eq0
 returns-then-self-eq0 c = record { did = search rules; front = unmoved _ _ refl }

@@ -1,8 +1,8 @@
 // The three semirings: yes/no, count and cost.
-ghost use Rattle.std.specs.Prelude.{◌≡◌, ◌+◌, ◌-◌, ◌*◌, ◌^◌, min};
+ghost use Rattle.std.specs.Prelude.{◌≡◌, ◌+◌, ◌-◌, ◌*◌, ◌^◌, min, ◌==◌};
 ghost use Rattle.semiring.specs.YesNos.{yes_no};
 ghost use Rattle.semiring.specs.Counts.{count};
-ghost use Rattle.semiring.specs.Costs.{cost};
+ghost use Rattle.semiring.specs.Costs.{cost, none};
 ghost use Rattle.semiring.specs.declared.cost.Cost.{Cost};
 ghost use Rattle.semiring.specs.declared.count.Count.{Count};
 ghost use Rattle.semiring.specs.YesNoLaws.{yes_no_laws, yes_no_commutes};
@@ -16,33 +16,28 @@ use super::yes_no::YesNo;
 
 impl Count {
     // The count with this value.
+    #[tactic(auto, using(crate::specs::CountLaws::same))]
     pub fn new(value: u64) -> Count
         ensures { (c : Count) → c.value ≡ value → result ≡ c }
     {
-        Count { value }.proved()
-    }
-
-    // The count itself; the contract is the theorem that it is the only one with its value.
-    fn proved(self) -> Count
-        ensures { (c : Count) → c.value ≡ self.value → result ≡ c }
-    {
-        self
+        Count { value }
     }
 }
 
 impl Cost {
+    // Whether there is no derivation.
+    pub fn is_none(self) -> bool
+        ensures { result ≡ (self.value == none) }
+    {
+        self.value == u32::MAX
+    }
+
     // The cost with this value; 2^32 - 1 is "none".
+    #[tactic(auto, using(crate::specs::CostLaws::same))]
     pub fn new(value: u32) -> Cost
         ensures { (c : Cost) → c.value ≡ value → result ≡ c }
     {
-        Cost { value }.proved()
-    }
-
-    // The cost itself; the contract is the theorem that it is the only one with its value.
-    fn proved(self) -> Cost
-        ensures { (c : Cost) → c.value ≡ self.value → result ≡ c }
-    {
-        self
+        Cost { value }
     }
 }
 
@@ -74,24 +69,11 @@ impl Semiring for YesNo {
     }
 }
 
-// The product, or 2^64 - 1 where that is smaller: one wide multiplication is faster than `saturating_mul`.
-fn capped_product(a: u64, b: u64) -> u64
-    ensures { result ≡ min (a * b) (2 ^ 64 - 1) }
+// A wide number, or 2^64 - 1 where that is smaller.
+fn capped(wide: u128) -> u64
+    ensures { result ≡ min wide (2 ^ 64 - 1) }
 {
-    let product = a as u128 * b as u128;
-    if product <= u64::MAX as u128 {
-        product as u64
-    } else {
-        u64::MAX
-    }
-}
-
-// The sum with a product, or 2^64 - 1 where that is smaller: it is capped once.
-fn capped_sum(a: u64, b: u64, c: u64) -> u64
-    ensures { result ≡ min (a + b * c) (2 ^ 64 - 1) }
-{
-    let sum = a as u128 + b as u128 * c as u128;
-    sum.min(u64::MAX as u128) as u64
+    u64::try_from(wide).unwrap_or(u64::MAX)
 }
 
 impl Semiring for Count {
@@ -114,11 +96,11 @@ impl Semiring for Count {
     }
 
     fn mul(self, other: Count) -> Count {
-        Count::new(capped_product(self.value, other.value))
+        Count::new(capped(self.value as u128 * other.value as u128))
     }
 
     fn add_product(self, left: Count, right: Count) -> Count {
-        Count::new(capped_sum(self.value, left.value, right.value))
+        Count::new(capped(self.value as u128 + left.value as u128 * right.value as u128))
     }
 }
 

@@ -1,5 +1,5 @@
 // Whether there is a derivation.
-#[derive(Clone, Copy)]
+#[derive(Clone, Copy, PartialEq, Eq, Debug)]
 pub struct YesNo {
     pub value: bool,
 }

@@ -8,3 +8,4 @@ pub mod Step
 pub mod Starts
 pub mod Spanning
 pub mod Cheapest
+pub mod Promised

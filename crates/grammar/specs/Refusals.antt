@@ -31,3 +31,8 @@ number_or_zero (Some why) = number why
 abbrev pub number_of : {T : Type 0} → Result T Refusal → ℕ
 number_of (Ok x) = 0
 number_of (Err why) = number why
+
+-- accepted, unless there is a reason to refuse
+abbrev pub accepted_unless : Option Refusal → Result (Unit {0}) Refusal
+accepted_unless None = Ok tt
+accepted_unless (Some why) = Err why

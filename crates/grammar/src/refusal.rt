@@ -5,37 +5,37 @@ ghost use Rattle.grammar.specs.Refusals.{number as number_of};
 #[derive(Clone, Copy, PartialEq, Eq, Debug)]
 pub enum Refusal {
     // a table grammar's count or start is out of range
-    GrammarOutOfRange,
+    GrammarOutOfRange = 1,
     // a rule names a nonterminal or a code that is not declared
-    Undeclared,
+    Undeclared = 2,
     // there is no row for another rule, or it would be the 257th
-    NoRow,
+    NoRow = 3,
     // the automaton has fewer codes than the grammar
-    FewerCodes,
+    FewerCodes = 4,
     // the layer would have more than 4,096 nonterminals or a rule bound above 16,777,216
-    TooLarge,
+    TooLarge = 5,
     // a 17th ban
-    TooManyBans,
+    TooManyBans = 6,
     // the entry is empty, or has a code that the grammar lacks
-    BadEntry,
+    BadEntry = 7,
     // a trial is open
-    TrialOpen,
+    TrialOpen = 8,
     // a 65th entry, or too few slots for the spans of the new length
-    NoRoom,
+    NoRoom = 9,
     // there is no such entry
-    NoEntry,
+    NoEntry = 10,
     // no trial is open
-    NoTrial,
+    NoTrial = 11,
     // the grammar shown has another number of nonterminals than the chart
-    OtherGrammar,
+    OtherGrammar = 12,
     // there is no derivation: the total is "none"
-    NoDerivation,
+    NoDerivation = 13,
     // fewer records than the tree has nodes
-    FewRecords,
+    FewRecords = 14,
     // a number of an automaton or a renaming is out of range
-    NumberOutOfRange,
+    NumberOutOfRange = 15,
     // the job breaks the rules for jobs
-    BadJob,
+    BadJob = 16,
 }
 
 impl Refusal {
@@ -43,23 +43,6 @@ impl Refusal {
     pub fn number(self) -> u8
         ensures { result ≡ number_of self }
     {
-        match self {
-            Refusal::GrammarOutOfRange => 1,
-            Refusal::Undeclared => 2,
-            Refusal::NoRow => 3,
-            Refusal::FewerCodes => 4,
-            Refusal::TooLarge => 5,
-            Refusal::TooManyBans => 6,
-            Refusal::BadEntry => 7,
-            Refusal::TrialOpen => 8,
-            Refusal::NoRoom => 9,
-            Refusal::NoEntry => 10,
-            Refusal::NoTrial => 11,
-            Refusal::OtherGrammar => 12,
-            Refusal::NoDerivation => 13,
-            Refusal::FewRecords => 14,
-            Refusal::NumberOutOfRange => 15,
-            Refusal::BadJob => 16,
-        }
+        self as u8
     }
 }

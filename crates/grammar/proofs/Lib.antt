@@ -9,3 +9,4 @@ pub mod Starts
 pub mod Spanning
 pub mod Cheapest
 pub mod Promised
+pub mod Accepting

@@ -3,8 +3,7 @@ use Rattle.std.specs.Prelude.{ℕ, List, map, take, Some, None, Option}
 use Rattle.grammar.specs.Grammars.{Meaning}
 use Rattle.table.specs.declared.draft.Draft.{Draft}
 use Rattle.table.specs.declared.table.Table.{Table}
-use Rattle.table.specs.Tables.{as_added, table_meaning}
-use Rattle.table.specs.Drafts.{contents}
+use Rattle.table.specs.Drafts.{contents, grammar_of}
 use Rattle.automata.specs.Held.{table_machine}
 use Rattle.layers.specs.declared.readings.Readings.{Readings}
 use Rattle.layers.specs.Held.{banned, recorder as recorder_of}
@@ -27,10 +26,6 @@ recorder_in (Some r) = Some (recorder_of r)
 abbrev pub held : Draft → Description → Described
 held t d = record { table = contents t; bans = banned d.bans; machine = table_machine d.automaton; recorder = recorder_in d.readings; entries = entries_of d.entries }
 
--- what a table means
-abbrev pub table_of : Table → Meaning
-table_of t = table_meaning t.nonterminals t.codes t.start (map as_added t.rows.now)
-
 -- the layers of a description over a table
 abbrev pub stack_of : Table → Description → Meaning
-stack_of t d = stacked (banned d.bans) (table_machine d.automaton) (recorder_in d.readings) (table_of t)
+stack_of t d = stacked (banned d.bans) (table_machine d.automaton) (recorder_in d.readings) (grammar_of t)

@@ -6,6 +6,7 @@ use Rattle.grammar.specs.declared.rule.Rule.{Rule}
 use Rattle.grammar.specs.declared.rule.Expansion.{Expansion}
 use Rattle.grammar.specs.Grammars.{Meaning}
 use Rattle.table.specs.declared.draft.Draft.{Draft}
+use Rattle.table.specs.declared.table.Table.{Table}
 use Rattle.table.specs.Tables.{Added, numbered, as_added, is_declared, table_meaning}
 
 -- a draft: why its making was refused, if it was; its counts and its start; the rules added so far; and for how many rules it has rows
@@ -21,9 +22,9 @@ pub record Drafted : Type 0 where
 abbrev pub contents : Draft → Drafted
 contents d = record {
   refusal = d.refusal;
-  nonterminals = d.nonterminals;
-  codes = d.codes;
-  start = d.start;
+  nonterminals = d.shape.nonterminals;
+  codes = d.shape.codes;
+  start = d.shape.start;
   added = map as_added (take d.count d.rows.now);
   room = length d.rows.now;
 }
@@ -75,3 +76,7 @@ written rows a (Err why) = rows
 -- the grammar that a draft is sealed into
 abbrev pub sealed : Drafted → Meaning
 sealed d = table_meaning d.nonterminals d.codes d.start d.added
+
+-- the grammar that a sealed table is: its rows are the rules added
+abbrev pub grammar_of : Table → Meaning
+grammar_of g = table_meaning g.shape.nonterminals g.shape.codes g.shape.start (map as_added g.rows.now)

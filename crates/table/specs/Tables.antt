@@ -1,5 +1,5 @@
 -- What a table grammar means, and which rows it may hold. Assumes nothing.
-use Rattle.std.specs.Prelude.{ℕ, zero, suc, Bool, true, ◌&&◌, List, [], ◌∷◌, length, Some, None, Option, ◌==◌, nat_le, nat_lt}
+use Rattle.std.specs.Prelude.{ℕ, suc, Bool, true, ◌&&◌, List, [], ◌∷◌, length, Some, None, Option, ◌==◌, nat_le, nat_lt, slice_get}
 use Rattle.grammar.specs.declared.rule.Rule.{Rule}
 use Rattle.grammar.specs.declared.rule.Expansion.{Expansion}
 use Rattle.grammar.specs.declared.rule.Expansion.TheVariants.{Pair, Leaf}
@@ -15,13 +15,7 @@ pub record Added : Type 0 where
 abbrev pub numbered : ℕ → Added → Rule
 numbered i a = record { lhs = a.lhs; expansion = a.expansion; cost = a.cost; bottom = i }
 
--- what stands at place i of a list, or none from its length on
-abbrev pub nth : List Added → ℕ → Option Added
-nth [] i = None
-nth (a ∷ added) zero = Some a
-nth (a ∷ added) (suc i) = nth added i
-
--- that as the rule with the number i
+-- what was added, if anything was, as the rule with the number i
 abbrev pub rule_of : ℕ → Option Added → Option Rule
 rule_of i None = None
 rule_of i (Some a) = Some (numbered i a)
@@ -32,7 +26,7 @@ table_meaning n t start added = record {
   nonterminals = n;
   codes = t;
   bound = length added;
-  rule = λ i. rule_of i (nth added i);
+  rule = λ i. rule_of i (slice_get added i);
   start = λ A. (A == start);
 }
 

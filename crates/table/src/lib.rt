@@ -2,7 +2,7 @@
 #![tactic(auto)]
 
 pub mod draft;
-pub mod drafting;
+mod shape;
 pub mod table;
 #[cfg(test)]
 mod tests;

@@ -1,24 +1,17 @@
 // A table grammar that is sealed: row i is rule i, and it can be read.
-ghost use Rattle.std.specs.Prelude.{◌≡◌, ◌<◌, ◌≤◌, true, map, length, MatchOption, slice_index_or};
-ghost use Rattle.table.specs.Tables.{as_added, all_fine, table_meaning};
-ghost use Rattle.table.specs.Laws.Shown.{table_shown};
+ghost use Rattle.std.specs.Prelude.{◌≡◌, ◌≤◌, true, length, slice_get};
+ghost use Rattle.table.specs.Tables.{all_fine};
 
+use crate::shape::Shape;
 use grammar::grammar::Grammar;
 use grammar::rule::Rule;
 
 #[derive(Drop)]
 pub struct Table<'a> {
-    pub(crate) nonterminals: u32,
-    pub(crate) codes: u32,
-    pub(crate) start: u32,
+    pub(crate) shape: Shape,
     pub(crate) rows: &'a [Rule],
-    ghost some: { 1 ≤ nonterminals },
-    ghost few: { nonterminals ≤ 32 },
-    ghost readable: { 1 ≤ codes },
-    ghost coded: { codes ≤ 32 },
-    ghost begins: { start < nonterminals },
     ghost short: { length rows.now ≤ 256 },
-    ghost fine: { all_fine nonterminals codes 0 rows.now ≡ true },
+    ghost fine: { all_fine shape.nonterminals shape.codes 0 rows.now ≡ true },
 }
 
 impl Table<'_> {
@@ -31,27 +24,26 @@ impl Table<'_> {
 
     // The rule in a row, or none from the count on.
     fn row(&self, number: u32) -> Option<Rule>
-        ensures { MatchOption result (length self.now.rows.now ≤ number) (λ rule. (number < length self.now.rows.now) × (rule ≡ slice_index_or self.now.rows.now number rule)) }
+        ensures { result ≡ slice_get self.now.rows.now number }
     {
-        if number < self.count() {
-            Some(self.rows[number as usize])
-        } else {
-            None
-        }
+        self.rows.get(number as usize).copied()
     }
 }
 
 impl<'a> Grammar for Table<'a> {
-    ghost meaning = { λ g. table_meaning g.nonterminals g.codes g.start (map as_added g.rows.now) };
+    ghost use Rattle.table.specs.Drafts.{grammar_of};
+    ghost use Rattle.table.specs.Laws.Shown.{table_shown};
 
-    ghost shown = { λ g. table_shown g.nonterminals g.codes g.start g.rows.now g.some g.few g.readable g.coded g.begins g.short g.fine };
+    ghost meaning = { grammar_of };
+
+    ghost shown = { λ g. table_shown g.shape.nonterminals g.shape.codes g.shape.start g.rows.now g.shape.some g.shape.few g.shape.readable g.shape.coded g.shape.begins g.short g.fine };
 
     fn nonterminals(&self) -> u32 {
-        self.nonterminals
+        self.shape.nonterminals
     }
 
     fn codes(&self) -> u32 {
-        self.codes
+        self.shape.codes
     }
 
     fn bound(&self) -> u32 {
@@ -63,6 +55,6 @@ impl<'a> Grammar for Table<'a> {
     }
 
     fn is_start(&self, nonterminal: u32) -> bool {
-        nonterminal == self.start
+        nonterminal == self.shape.start
     }
 }

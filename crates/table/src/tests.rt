@@ -5,13 +5,6 @@ use grammar::refusal::Refusal;
 use grammar::rule::{Expansion, Rule};
 use std::test::Fail;
 
-const BLANK: Rule = Rule {
-    lhs: 0,
-    expansion: Expansion::Leaf { code: 0 },
-    cost: 0,
-    bottom: 0,
-};
-
 // What a draft is made with, and whether that is refused.
 #[derive(Clone, Copy)]
 struct Making {
@@ -77,7 +70,7 @@ fn makes(rt: HostRuntime) {
         },
     ];
     for case in cases {
-        let mut rows = [BLANK; 2];
+        let mut rows = [Rule::BLANK; 2];
         let draft = Draft::new(&mut rows, case.nonterminals, case.codes, case.start);
         assert_eq!(rt; draft.refusal(), case.refusal);
     }
@@ -128,7 +121,7 @@ fn adds(rt: HostRuntime) -> Result<(), Fail> {
             answer: Err(Refusal::NoRow),
         },
     ];
-    let mut rows = [BLANK; 2];
+    let mut rows = [Rule::BLANK; 2];
     let mut draft = Draft::new(&mut rows, 2, 3, 1);
     for case in cases {
         assert_eq!(rt; draft.add(case.lhs, case.expansion, 7), case.answer);
@@ -149,7 +142,7 @@ fn adds(rt: HostRuntime) -> Result<(), Fail> {
 
 #[test]
 fn at_most_256(rt: HostRuntime) {
-    let mut rows = [BLANK; 300];
+    let mut rows = [Rule::BLANK; 300];
     let mut draft = Draft::new(&mut rows, 1, 1, 0);
     for number in 0..256 {
         assert_eq!(rt; draft.add(0, Expansion::Leaf { code: 0 }, 1), Ok(number));
@@ -165,7 +158,7 @@ fn at_most_256(rt: HostRuntime) {
 
 #[test]
 fn smallest(rt: HostRuntime) {
-    let mut rows = [BLANK; 2];
+    let mut rows = [Rule::BLANK; 2];
     let mut draft = Draft::new(&mut rows, 5, 40, 0);
     assert_eq!(rt;
         draft.add(1, Expansion::Leaf { code: 0 }, 1),

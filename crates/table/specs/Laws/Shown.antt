@@ -1,13 +1,13 @@
 -- A table grammar shows what every grammar must show; and reading one row is reading one rule. Assumes nothing.
-use Rattle.std.specs.Prelude.{◌≡◌, ℕ, zero, suc, ◌+◌, ◌<◌, ◌≤◌, true, ◌&&◌, List, [], ◌∷◌, ◌++◌, map, length, Some, None, ◌==◌, ◌≢◌, nat_le, nat_lt, slice_index_or, refl}
-use Rattle.std.proofs.Common.{sym, ap, subst, ◌∙◌, le_of_suc-le-suc, add-zero, arith}
+use Rattle.std.specs.Prelude.{◌≡◌, ℕ, zero, suc, ◌+◌, ◌<◌, ◌≤◌, true, ◌&&◌, List, [], ◌∷◌, ◌++◌, map, length, Some, None, ◌==◌, ◌≢◌, nat_le, nat_lt, slice_get, refl}
+use Rattle.std.proofs.Common.{sym, ap, subst, ◌∙◌, add-zero, arith}
 use Rattle.std.proofs.lemmas.List.{length-map}
 use Rattle.std.proofs.lemmas.Bool.{ltb-true, leb-true, eqb-true, le-leb, eq-eqb, and_parts, and_from}
 use Rattle.grammar.specs.declared.rule.Rule.{Rule}
 use Rattle.grammar.specs.declared.rule.Expansion.{Expansion}
 use Rattle.grammar.specs.declared.rule.Expansion.TheVariants.{Pair, Leaf}
 use Rattle.grammar.specs.Grammars.{Meaning, Declared, Shown}
-use Rattle.table.specs.Tables.{numbered, nth, rule_of, names, is_declared, as_added, fine, all_fine, table_meaning}
+use Rattle.table.specs.Tables.{numbered, rule_of, names, is_declared, as_added, fine, all_fine, table_meaning}
 
 pub no_some : {X : Type 0} {x : X} → None ≢ Some x
 no_some e = let z : ◌≡◌ {A = ℕ} 0 1 = cc in omega arith
@@ -33,22 +33,17 @@ fine_first n t i r rows f = fine_says n t i r (and_parts (fine n t i r) (all_fin
 fine_rest : (n t i : ℕ) (r : Rule) (rows : List Rule) → all_fine n t i (r ∷ rows) ≡ true → all_fine n t (suc i) rows ≡ true
 fine_rest n t i r rows f = (and_parts (fine n t i r) (all_fine n t (suc i) rows) f).1
 
--- row i of fine rows is rule i
-pub row_is : (n t j : ℕ) (rows : List Rule) (i : ℕ) (d : Rule) → all_fine n t j rows ≡ true → i < length rows → rule_of (j + i) (nth (map as_added rows) i) ≡ Some (slice_index_or rows i d)
-row_is n t j [] i d f h = absurd (omega arith)
-row_is n t j (r ∷ rows) zero d f h =
-    ap (λ b. Some (numbered b (as_added r))) (add-zero j ∙ sym (fine_first n t j r rows f).own)
-row_is n t j (r ∷ rows) (suc i) d f h =
-    let e : suc j + i ≡ j + suc i = omega arith in
-    subst (λ b. rule_of b (nth (map as_added rows) i) ≡ Some (slice_index_or rows i d)) e (row_is n t (suc j) rows i d (fine_rest n t j r rows f) (le_of_suc-le-suc h))
-
-pub row_past : (rows : List Rule) (i k : ℕ) → length rows ≤ i → rule_of k (nth (map as_added rows) i) ≡ None
-row_past [] i k h = refl
-row_past (r ∷ rows) zero k h = absurd (omega arith)
-row_past (r ∷ rows) (suc i) k h = row_past rows i k (le_of_suc-le-suc h)
+-- what stands in row i of fine rows is rule i, or none from their count on
+pub row_means : (n t j : ℕ) (rows : List Rule) (i : ℕ) → all_fine n t j rows ≡ true → slice_get rows i ≡ rule_of (j + i) (slice_get (map as_added rows) i)
+row_means n t j [] i f = refl
+row_means n t j (r ∷ rows) zero f =
+    ap (λ b. Some (numbered b (as_added r))) ((fine_first n t j r rows f).own ∙ sym (add-zero j))
+row_means n t j (r ∷ rows) (suc i) f =
+    row_means n t (suc j) rows i (fine_rest n t j r rows f)
+    ∙ ap (λ b. rule_of b (slice_get (map as_added rows) i)) (omega arith)
 
 -- what is at a number is below the count, and is one of the fine rows
-found : (n t j : ℕ) (rows : List Rule) (i k : ℕ) (r : Rule) → all_fine n t j rows ≡ true → rule_of k (nth (map as_added rows) i) ≡ Some r → (i < length rows) × (is_declared n t r.lhs r.expansion ≡ true) × (r.cost ≤ 65535)
+found : (n t j : ℕ) (rows : List Rule) (i k : ℕ) (r : Rule) → all_fine n t j rows ≡ true → rule_of k (slice_get (map as_added rows) i) ≡ Some r → (i < length rows) × (is_declared n t r.lhs r.expansion ≡ true) × (r.cost ≤ 65535)
 found n t j [] i k r f e = absurd (no_some e)
 found n t j (x ∷ rows) zero k r f e =
     let first = fine_first n t j x rows f in

@@ -1,6 +1,6 @@
 -- What the tree call answers, from the total. Assumes nothing.
-use Rattle.std.proofs.Common.{◌≡◌, ℕ, zero, suc, ◌+◌, ◌-◌, ◌*◌, ◌<◌, ◌≤◌, Bool, true, false, cond, eqb, leb, ◌≢◌, ◌⊎◌, List, length, Some, Ok, Err, Result, sym, refl, ap, ◌∙◌, subst, ap₂, inl, inr, arith, eqb→eq, leb→le, eq-eqb, ne_eqb}
-use Rattle.std.proofs.lemmas.Bool.{cond-true, cond-false}
+use Rattle.std.proofs.Common.{◌≡◌, ℕ, zero, suc, ◌-◌, ◌*◌, ◌<◌, ◌≤◌, Bool, true, false, cond, eqb, leb, ◌≢◌, ◌⊎◌, List, length, Some, None, Option, IsSome, Ok, Err, Result, sym, refl, ap, ◌∙◌, subst, inl, inr, arith, eqb→eq, leb→le, eq-eqb}
+use Rattle.std.proofs.lemmas.Bool.{cond-true}
 use Rattle.semiring.specs.Semirings.{Operations}
 use Rattle.semiring.specs.declared.cost.Cost.{Cost}
 use Rattle.semiring.specs.Costs.{cost, costing, none}
@@ -11,7 +11,7 @@ use Rattle.grammar.specs.declared.rule.Rule.{Rule}
 use Rattle.grammar.specs.Grammars.{Meaning, Shown}
 use Rattle.grammar.specs.Derivations.{Tree, EntriesFromStarts}
 use Rattle.grammar.specs.Totals.{TotalOf, weight_of, by}
-use Rattle.grammar.specs.Spans.{start_sum, Filled, Stands}
+use Rattle.grammar.specs.Spans.{start_sum, Filled}
 use Rattle.grammar.specs.Costs.{cost_of}
 use Rattle.grammar.proofs.Truths.{true_of, not_both}
 use Rattle.grammar.proofs.Cheapest.{total_least, below_none}
@@ -24,10 +24,11 @@ use Rattle.chart.specs.Reads.{whole_total, total_answer}
 use Rattle.entries.proofs.Listing.{size}
 use Rattle.chart.proofs.Totalling.{some_whole, total_stands}
 use Rattle.tree.specs.declared.record.Record.{Record}
-use Rattle.tree.specs.Trees.{nodes_answer, tree_answer, chart_answer, ChartCheapest, WeighsCost, TellsNone}
+use Rattle.tree.specs.Trees.{nodes_answer, tree_answer, chart_answer, ChartCheapest, ChartEvery, WeighsCost, TellsNone}
 use Rattle.tree.specs.Steps.{FirstOf, StartAttains, Taken}
 use Rattle.tree.proofs.Choosing.{sum_attained}
 use Rattle.tree.proofs.Cheap.{cheapest}
+use Rattle.tree.proofs.Converse.{every_cheapest}
 
 -- an accepted total is the chart's, and the grammar shown has its number of nonterminals
 pub ok_total : {S : Type 0} (s : Operations S) (m : Meaning) (n count : ℕ) (xs : List S) (v : S) → total_answer s m n count xs ≡ Ok v → (m.nonterminals ≡ n) × (v ≡ whole_total s m count xs)
@@ -103,20 +104,14 @@ pub record Passed (m : Meaning) (e : Entries) (xs : List Cost) (v : Cost) (count
   pub nodes_are : nodes ≡ 2 * e.count - 1
   pub fits : 2 * e.count - 1 ≤ room
 
-pub passed : (m : Meaning) (e : Entries) (xs : List Cost) (v : Cost) (count room nodes : ℕ) → total_answer cost m e.nonterminals e.count xs ≡ Ok v → count ≡ length (state e).entries → nodes_answer v count room ≡ Ok nodes
+pub passed : (m : Meaning) (e : Entries) (xs : List Cost) (v : Cost) (count room nodes : ℕ) → total_answer cost m e.nonterminals e.count xs ≡ Ok v → count ≡ e.count → nodes_answer v count room ≡ Ok nodes
     → Passed m e xs v count room nodes
-passed m e xs v count room nodes total long answer =
+passed m e xs v count room nodes total counted answer =
     let t = ok_total cost m e.nonterminals e.count xs v total in
     let a = accepted_some v count room nodes answer in
-    let counted : count ≡ e.count = long ∙ size e in
     let nodes_are = a.1 in
     let fits = a.2 in
     record { same = t.0; is = t.1; some = a.0; counted = counted; full = total_some m e.count xs v t.1 a.0; nodes_are = omega arith; fits = omega arith }
-
--- the answer is that to the tests
-pub chart_answer_lem : (m : Meaning) (e : Entries) (xs : List Cost) (v : Cost) (count room : ℕ) (r : Result ℕ Refusal) → total_answer cost m e.nonterminals e.count xs ≡ Ok v → count ≡ length (state e).entries → nodes_answer v count room ≡ r
-    → r ≡ chart_answer m e xs room
-chart_answer_lem m e xs v count room r total long answer = sym answer ∙ ap (λ n. nodes_answer v n room) (long ∙ size e) ∙ sym (ap (λ t. tree_answer t e.count room) total)
 
 module _ (weigh : Rule → Cost) (m : Meaning) (es : List ℕ) (total : Cost) (is : TotalOf cost (EntriesFromStarts m es) (weight_of cost weigh m) total) where
   none_without : ((t : Tree) → EntriesFromStarts m es t → ⊥) → total.value ≡ none
@@ -149,6 +144,15 @@ tells_none weight m shown e xs room r is same byc stands =
       λ never. said ∙ none_answer total e.count room (none_without (by weight) m es total whole never),
     )
 
+-- where there is a number with P, one is found
+pub some_found : (P : ℕ → Type 0) (r : Option ℕ) → FirstOf P r → (k : ℕ) × P k → IsSome r
+some_found P None first d = absurd (first d.0 d.1)
+some_found P (Some k) first d = refl
+
+-- each derivation of least cost is made of rivals, where the chart stands
+pub chart_every : (weight : ℕ → ℕ → Cost) (m : Meaning) → Shown m → (e : Entries) (xs : List Cost) → ChartStands cost weight m e xs → ChartEvery weight m e xs
+chart_every weight m shown e xs = every_cheapest (by weight) m shown (state e).entries (cell_at cost m.nonterminals xs)
+
 -- the records of the tree that was taken over all entries
 module _ (weight : ℕ → ℕ → Cost) (m : Meaning) (shown : Shown m) (e : Entries) (xs : List Cost) (same : m.nonterminals ≡ e.nonterminals) (stands : ChartStands cost weight m e xs) where
   abbrev es : List ℕ
@@ -157,13 +161,14 @@ module _ (weight : ℕ → ℕ → Cost) (m : Meaning) (shown : Shown m) (e : En
   abbrev cell_of : ℕ → ℕ → ℕ → ℕ → Cost
   cell_of n = cell_at cost n xs
 
-  pub whole_tree : (v : Cost) → v ≡ whole_total cost m e.count xs → v.value < none → (count A : ℕ) → count ≡ length es
+  pub whole_tree : (v : Cost) → v ≡ whole_total cost m e.count xs → v.value < none → (count A : ℕ) → count ≡ e.count
       → FirstOf (StartAttains m m.nonterminals (cell_of e.nonterminals 0 count) v.value) (Some A)
       → (part written : List Record) → written ≡ part
       → (Filled cost (by weight) m es (cell_of e.nonterminals) → (cell_of e.nonterminals 0 count A).value < none → Taken (by weight) m es (cell_of e.nonterminals) 0 count A part)
       → ChartCheapest weight m e xs written
-  whole_tree v is some count A long start part written wrote taken =
+  whole_tree v is some count A counted start part written wrote taken =
       let total = whole_total cost m e.count xs in
+      let long : count ≡ length es = counted ∙ sym (size e) in
       let full : 0 < length es = omega (arith, size e, total_some m e.count xs v is some) in
       let whole : TotalOf cost (EntriesFromStarts m es) (weight_of cost (by weight) m) total =
       subst (λ n. TotalOf cost (EntriesFromStarts m es) (weight_of cost (by weight) m) (whole_total cost m n xs)) (size e) (total_stands cost_laws (by weight) m shown es xs stands) in

@@ -1,13 +1,13 @@
 -- A tree of rivals is a derivation that costs what its cell holds. Assumes nothing.
-use Rattle.std.proofs.Common.{◌≡◌, ℕ, ◌+◌, ◌-◌, ◌<◌, ◌≤◌, Bool, true, false, cond, ◌⊎◌, List, [], ◌∷◌, length, get_or, take, drop, Some, sym, refl, ap, ◌∙◌, subst, ap₂, inl, inr, arith}
+use Rattle.std.proofs.Common.{◌≡◌, ℕ, ◌+◌, ◌-◌, ◌<◌, ◌≤◌, true, cond, List, [], ◌∷◌, length, get_or, take, drop, Some, sym, refl, ap, ◌∙◌, subst, ap₂, arith}
 use Rattle.semiring.specs.declared.cost.Cost.{Cost}
-use Rattle.semiring.specs.Costs.{cost, none}
+use Rattle.semiring.specs.Costs.{cost}
 use Rattle.semiring.specs.CostLaws.{same}
 use Rattle.grammar.specs.declared.rule.Expansion.{Expansion}
 use Rattle.grammar.specs.declared.rule.Expansion.TheVariants.{Pair, Leaf}
 use Rattle.grammar.specs.declared.rule.Rule.{Rule}
 use Rattle.grammar.specs.Grammars.{Meaning, Shown}
-use Rattle.grammar.specs.Derivations.{Tree, leaf, node, pair_rule, Fits, DerivesEntries, EntriesFromStarts, has}
+use Rattle.grammar.specs.Derivations.{Tree, leaf, node, pair_rule, Fits, DerivesEntries, EntriesFromStarts}
 use Rattle.grammar.specs.Totals.{weighed, weight_of, TotalOf}
 use Rattle.grammar.specs.Spans.{span, start_sum}
 use Rattle.grammar.specs.Costs.{cost_of}
@@ -16,7 +16,7 @@ use Rattle.grammar.proofs.Spanning.{span_one, span_front, span_back, span_all}
 use Rattle.grammar.proofs.Cheapest.{total_least}
 use Rattle.tree.specs.declared.record.Record.{Record}
 use Rattle.tree.specs.Rivals.{Attains, PairAttains, Rival, AtNode, ByRivals}
-use Rattle.tree.specs.Trees.{LeastStart, Cheapest}
+use Rattle.tree.specs.Trees.{Cheapest}
 use Rattle.tree.specs.Steps.{StartAttains, Taken}
 use Rattle.tree.proofs.Choosing.{sum_below_le}
 

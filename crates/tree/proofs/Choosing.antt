@@ -1,5 +1,5 @@
 -- Rivals: that there is one, the first of them, and what follows of one. Assumes nothing.
-use Rattle.std.proofs.Common.{◌≡◌, ℕ, zero, suc, ◌+◌, ◌-◌, ◌<◌, ◌≤◌, min, Bool, true, false, cond, ◌&&◌, eqb, ◌⊎◌, List, length, get_or, Some, None, Option, sym, refl, ap, ◌∙◌, subst, ap₂, inl, inr, arith, eqb→eq}
+use Rattle.std.proofs.Common.{◌≡◌, ℕ, zero, suc, ◌+◌, ◌-◌, ◌<◌, ◌≤◌, min, Bool, true, false, cond, ◌&&◌, eqb, List, get_or, Some, None, Option, sym, refl, ap, ◌∙◌, subst, inl, inr, arith, eqb→eq, MatchOption}
 use native.Mathlib.Decide.{dec_le}
 use Rattle.std.proofs.lemmas.Bool.{cases_lt}
 use Rattle.semiring.specs.declared.cost.Cost.{Cost}
@@ -13,19 +13,23 @@ use Rattle.grammar.specs.Derivations.{has}
 use Rattle.grammar.specs.Spans.{cut_term, share, rule_share, shares}
 use Rattle.grammar.proofs.Truths.{true_of}
 use Rattle.tree.specs.declared.node.Choice.{Choice}
-use Rattle.tree.specs.Rivals.{LeafAttains, PairAttains, Attains, Rival, First}
-use Rattle.tree.specs.Steps.{Parts, PickedAt, PickedOf}
+use Rattle.tree.specs.Rivals.{LeafAttains, PairAttains, Attains, Rival}
+use Rattle.tree.specs.Steps.{PickedOne, Picked, PickedOf}
 
 -- the smallest cut of the lowest rule number
-pub picked_first : (R : ℕ → ℕ → Type 0) (m : Meaning) (i : ℕ) → ((j : ℕ) → j < i → (h : ℕ) → R j h → ⊥) → (k : ℕ) → R i k → (r : Option Choice) → PickedAt R m i r → PickedOf R m r
-picked_first R m i early k there None p = absurd (p k there)
-picked_first R m i early k there (Some c) p =
-    let at = p.number in
-    record {
-      of = p.of;
-      rival = subst (λ n. R n c.cut) (sym at) p.rival;
-      first = record { lowest = λ j h r. elim (cases_lt j c.number) [ inl before ↦ absurd (early j (omega arith) h r) | inr late ↦ late ]; smallest = λ h r. p.smallest h (subst (λ n. R n h) at r) };
-    }
+pub picked_first : (R : ℕ → ℕ → Type 0) (m : Meaning) (i : ℕ) → ((j : ℕ) → j < i → (h : ℕ) → R j h → ⊥) → (c : Choice) → PickedOne R m i c → Picked R m c
+picked_first R m i early c p = record {
+  number = i;
+  there = p.there;
+  rival = p.rival;
+  first = record { lowest = λ j h r. elim (cases_lt j i) [ inl before ↦ absurd (early j before h r) | inr late ↦ late ]; smallest = p.smallest };
+}
+
+-- the first of all numbers below n
+pub picked_of : (R : ℕ → ℕ → Type 0) (m : Meaning) (n : ℕ) → ((i k : ℕ) → R i k → i < n) → (r : Option Choice)
+    → MatchOption r ((i : ℕ) → 0 ≤ i → i < n → (k : ℕ) → R i k → ⊥) (λ c. (i : ℕ) × (0 ≤ i) × (i < n) × PickedOne R m i c × ((j : ℕ) → 0 ≤ j → j < i → (k : ℕ) → R j k → ⊥)) → PickedOf R m r
+picked_of R m n below None h = λ i k r. h i (omega arith) (below i k r) k r
+picked_of R m n below (Some c) h = picked_first R m h.0 (λ j early k r. h.4 j (omega arith) early k r) c h.3
 
 -- a sum in the cost semiring is one of its terms, or none
 pub sum_attained : (n : ℕ) (f : ℕ → Cost) → (sum_below cost n f).value < none → (i : ℕ) × (i < n) × ((f i).value ≡ (sum_below cost n f).value)
@@ -88,22 +92,23 @@ module _ (weigh : Rule → Cost) (m : Meaning) (es : List ℕ) (cell : ℕ → �
       rule_rival i None is e = absurd (omega arith)
       rule_rival i (Some r) is e = from_rule i r is (eqb r.lhs A) refl e
 
-  module _ (w : Cost) (v : ℕ) where
-    pub wide_cut : (x : Expansion) (k : ℕ) → Attains es cell w v begin end x k → begin + 1 < end → (begin < k) × (k < end)
-    wide_cut (Leaf c) k p h = absurd (let e = p.one in omega arith)
-    wide_cut (Pair B C) k p h = (p.after, p.before)
+  -- what is picked attains the cost by the rule that is written
+  pub attained : (c : Choice) → Picked (Rival weigh m es cell begin end A) m c → Attains es cell (weigh c.rule) (cell begin end A).value begin end c.rule.expansion c.cut
+  attained c p =
+      let same : p.rival.rule ≡ c.rule = (let t = p.rival.there in let u = p.there in cc) in
+      subst (λ (r : Rule). Attains es cell (weigh r) (cell begin end A).value begin end r.expansion c.cut) same p.rival.attains
 
-    pub narrow_cut : (x : Expansion) (k : ℕ) → Attains es cell w v begin end x k → begin + 1 ≡ end → k ≡ end
-    narrow_cut (Leaf c) k p h = p.cut
-    narrow_cut (Pair B C) k p h = absurd (let e = p.after in let f = p.before in omega arith)
+  pub picked_from : (c : Choice) → Picked (Rival weigh m es cell begin end A) m c → c.rule.lhs ≡ A
+  picked_from c p =
+      let same : p.rival.rule ≡ c.rule = (let t = p.rival.there in let u = p.there in cc) in
+      subst (λ (r : Rule). r.lhs ≡ A) same p.rival.from
 
-    -- a cut in a wide span is a pair rule's, and its parts are not none
-    pub wide_parts : (x : Expansion) (k l r : ℕ) → Attains es cell w v begin end x k → Parts x l r → begin + 1 < end → v < none → (x ≡ Pair l r) × ((cell begin k l).value < none) × ((cell k end r).value < none)
-    wide_parts (Leaf c) k l r p parts h some = absurd (let e = p.one in omega arith)
-    wide_parts (Pair B C) k l r p parts h some =
-        let e : (cost.times w (cost.times (cell begin k l) (cell k end r))).value ≡ v = ap₂ (λ y z. (cost.times w (cost.times (cell begin k y) (cell k end z))).value) parts.0 parts.1 ∙ p.costs in
-        (ap₂ Pair (sym parts.0) (sym parts.1), omega arith, omega arith)
+  pub leaf_attained : (c : Choice) (code : ℕ) → Picked (Rival weigh m es cell begin end A) m c → c.rule.expansion ≡ Leaf code → LeafAttains es (weigh c.rule) (cell begin end A).value begin end code c.cut
+  leaf_attained c code p is = subst (λ x. Attains es cell (weigh c.rule) (cell begin end A).value begin end x c.cut) is (attained c p)
 
-pub parts_below : (m : Meaning) (x : Expansion) (l r : ℕ) → Declared m x → Parts x l r → 1 ≤ m.nonterminals → (l < m.nonterminals) × (r < m.nonterminals)
-parts_below m (Leaf c) l r names parts some = ((let e = parts.0 in omega arith), (let e = parts.1 in omega arith))
-parts_below m (Pair B C) l r names parts some = ((let e = parts.0 in let h = names.0 in omega arith), (let e = parts.1 in let h = names.1 in omega arith))
+  pub pair_attained : (c : Choice) (left right : ℕ) → Picked (Rival weigh m es cell begin end A) m c → c.rule.expansion ≡ Pair left right → PairAttains cell (weigh c.rule) (cell begin end A).value begin end left right c.cut
+  pair_attained c left right p is = subst (λ x. Attains es cell (weigh c.rule) (cell begin end A).value begin end x c.cut) is (attained c p)
+
+-- the parts of a pair rule are nonterminals of the grammar
+pub pair_declared : (m : Meaning) → Shown m → (i : ℕ) (r : Rule) (left right : ℕ) → m.rule i ≡ Some r → r.expansion ≡ Pair left right → (left < m.nonterminals) × (right < m.nonterminals)
+pair_declared m shown i r left right there is = subst (Declared m) is (shown.rules i r there).into

@@ -2,18 +2,17 @@
 use Rattle.std.proofs.Common.{◌≡◌, ℕ, suc, ◌+◌, ◌-◌, ◌<◌, ◌≤◌, true, ◌⊎◌, List, [], ◌∷◌, length, get_or, Some, sym, refl, ap, ◌∙◌, subst, inl, inr, arith}
 use Rattle.semiring.specs.declared.cost.Cost.{Cost}
 use Rattle.semiring.specs.Costs.{cost, none}
-use Rattle.grammar.specs.declared.rule.Expansion.TheVariants.{Pair, Leaf}
 use Rattle.grammar.specs.declared.rule.Rule.{Rule}
 use Rattle.grammar.specs.Grammars.{Meaning, Shown}
-use Rattle.grammar.specs.Derivations.{Tree, leaf, node, leaf_rule, pair_rule, Fits, DerivesEntries, EntriesFromStarts, has}
-use Rattle.grammar.specs.Totals.{weighed, weight_of}
+use Rattle.grammar.specs.Derivations.{Tree, leaf, node, leaf_rule, pair_rule, Fits, DerivesEntries}
+use Rattle.grammar.specs.Totals.{weighed}
 use Rattle.grammar.specs.Spans.{span, Stands}
 use Rattle.grammar.specs.Costs.{cost_of, Least}
 use Rattle.grammar.proofs.Shapes.{leaf_shape, node_shape, node_made, entries_length, some_leaf}
 use Rattle.grammar.proofs.Spanning.{span_length, span_one, span_front, span_back, span_all}
 use Rattle.grammar.proofs.Cheapest.{total_least}
 use Rattle.tree.specs.Rivals.{Rival, ByRivals}
-use Rattle.tree.specs.Trees.{LeastStart, LeastCost, EveryCheapest}
+use Rattle.tree.specs.Trees.{EveryCheapest}
 
 node_parts : (i : ℕ) (l l' r r' : Tree) → node i l r ≡ node i l' r' → (l ≡ l') × (r ≡ r')
 node_parts i l l' r r' e = (cc, cc)

@@ -1,5 +1,5 @@
 -- The records of a tree, what the tree call answers and writes, and the theorems on its contract. Assumes nothing.
-use Rattle.std.specs.Prelude.{◌≡◌, ℕ, ◌+◌, ◌-◌, ◌*◌, ◌<◌, ◌≤◌, Bool, true, cond, List, [], ◌∷◌, ◌++◌, length, Some, None, Ok, Err, Option, Result, ◌==◌, nat_le}
+use Rattle.std.specs.Prelude.{◌≡◌, ℕ, ◌+◌, ◌-◌, ◌*◌, ◌<◌, ◌≤◌, true, cond, List, [], ◌∷◌, ◌++◌, length, Some, None, Ok, Err, Option, Result, ◌==◌, nat_le}
 use Rattle.semiring.specs.declared.cost.Cost.{Cost}
 use Rattle.semiring.specs.Costs.{cost, costing, none}
 use Rattle.grammar.specs.declared.refusal.Refusal.{Refusal}

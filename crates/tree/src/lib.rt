@@ -11,14 +11,14 @@ use grammar::grammar::Grammar;
 use grammar::refusal::Refusal;
 use grammar::weighing::Weighing;
 use node::Node;
-use reads::len;
+use reading::Reading;
 use record::Record;
 use semiring::cost::Cost;
-use starts::{first_start, node_count};
-use writes::write_tree;
+use starts::node_count;
 
-mod costing;
 mod node;
+mod parts;
+mod reading;
 mod reads;
 pub mod record;
 mod rivals;
@@ -40,18 +40,18 @@ pub fn tree<G: Grammar, W: Weighing<Value = Cost>>(
     ensures every { ChartStands cost (W.weight weighing.now) (G.meaning grammar.now) chart.now.entries chart.now.slots.cells.now → ChartEvery (W.weight weighing.now) (G.meaning grammar.now) chart.now.entries chart.now.slots.cells.now }
 {
     let total = chart.total(grammar)?;
-    let count = len(chart);
+    let count = chart.entries().len();
     let nodes = node_count(total, count, records.len())?;
-    match first_start(chart, grammar, count, total.value) {
-        Some(start) => {
-            let root = Node {
-                begin: 0,
-                end: count,
-                nonterminal: start,
-            };
-            write_tree(chart, grammar, weighing, root, records, 0);
-            Ok(nodes)
-        }
-        None => unreachable(),
-    }
+    let reading = Reading {
+        chart,
+        grammar,
+        weighing,
+    };
+    let root = Node {
+        begin: 0,
+        end: count,
+        nonterminal: reading.first_start(count, total).unwrap(),
+    };
+    reading.write_tree(root, records, 0);
+    Ok(nodes)
 }

@@ -1,205 +1,99 @@
 // The choices that attain a cell's cost, and the first of them.
-ghost use Rattle.std.specs.Prelude.{◌≡◌, ℕ, ◌+◌, ◌<◌, ◌≤◌};
+ghost use Rattle.std.specs.Prelude.{◌≡◌, ◌<◌, ◌≤◌};
 ghost use Rattle.semiring.specs.Costs.{cost};
-ghost use Rattle.grammar.specs.Totals.{by};
 ghost use Rattle.chart.specs.Cells.{cell_at, Names};
 ghost use Rattle.entries.specs.Model.{state};
-ghost use Rattle.tree.specs.Rivals.{LeafAttains, PairAttains, Attains, Rival};
-ghost use Rattle.tree.specs.Steps.{Says, FirstOf, FirstBelow, Parts, HasRival, PickedAt, PickedOf};
+ghost use Rattle.tree.specs.Rivals.{LeafAttains, PairAttains, Attains};
+ghost use Rattle.tree.specs.Steps.{InUse, Says, FirstOf, ChartRival, PickedAt, PickedOf};
 
-use super::costing::Costing;
 use super::node::{Choice, Node};
-use super::reads::{cell, entry};
-use chart::chart::Chart;
+use super::reading::Reading;
 use grammar::grammar::Grammar;
 use grammar::rule::Expansion;
+use grammar::weighing::Weighing;
 use semiring::cost::Cost;
 use semiring::semiring::Semiring;
 
-// Whether a pair rule of this weight, cut at `cut`, attains the cost of the span.
-fn pair_attains(
-    chart: &Chart<'_, Cost>,
-    begin: usize,
-    end: usize,
-    left: u32,
-    right: u32,
+// A rule that is tried at a node: its weight, and the cost of the node's cell, which it has to attain.
+#[derive(Clone, Copy)]
+struct Attempt {
+    node: Node,
     weight: Cost,
-    value: u32,
-    cut: usize,
-) -> bool
-    requires after { begin < cut }
-    requires before { cut < end }
-    requires within { end ≤ chart.now.entries.count }
-    requires names { (left < chart.now.entries.nonterminals) × (right < chart.now.entries.nonterminals) }
-    ensures { Says result (PairAttains (cell_at cost chart.now.entries.nonterminals chart.now.slots.cells.now) weight value begin end left right cut) }
-{
-    let l = cell(chart, begin, cut, left);
-    let r = cell(chart, cut, end, right);
-    weight.mul(l.mul(r)).value == value
+    value: Cost,
 }
 
-// The smallest cut at which a pair rule of this weight attains the cost of the span.
-fn first_pair_cut(
-    chart: &Chart<'_, Cost>,
-    begin: usize,
-    end: usize,
-    left: u32,
-    right: u32,
-    weight: Cost,
-    value: u32,
-) -> Option<usize>
-    requires span { begin < end }
-    requires within { end ≤ chart.now.entries.count }
-    requires names { (left < chart.now.entries.nonterminals) × (right < chart.now.entries.nonterminals) }
-    ensures { FirstOf (PairAttains (cell_at cost chart.now.entries.nonterminals chart.now.slots.cells.now) weight value begin end left right) result }
-{
-    for cut in begin + 1..end {
-        if pair_attains(chart, begin, end, left, right, weight, value, cut) {
-            return Some(cut);
+impl<G: Grammar, W: Weighing<Value = Cost>> Reading<'_, '_, G, W> {
+    // Whether a pair rule, cut at `cut`, attains the cost.
+    fn pair_attains(&self, tried: Attempt, left: u32, right: u32, cut: usize) -> bool
+        requires after { tried.node.begin < cut }
+        requires before { cut < tried.node.end }
+        requires within { tried.node.end ≤ self.now.chart.now.entries.count }
+        requires names { Names self.now.chart.now.entries.nonterminals (Expansion.Pair left right) }
+        ensures { Says result (PairAttains (cell_at cost self.now.chart.now.entries.nonterminals self.now.chart.now.slots.cells.now) tried.weight tried.value.value tried.node.begin tried.node.end left right cut) }
+    {
+        let l = self.cell(tried.node.front(cut, left));
+        let r = self.cell(tried.node.back(cut, right));
+        tried.weight.mul(l.mul(r)) == tried.value
+    }
+
+    // The smallest cut at which a pair rule attains the cost.
+    fn first_pair_cut(&self, tried: Attempt, left: u32, right: u32) -> Option<usize>
+        requires within { tried.node.end ≤ self.now.chart.now.entries.count }
+        requires names { Names self.now.chart.now.entries.nonterminals (Expansion.Pair left right) }
+        ensures { FirstOf (PairAttains (cell_at cost self.now.chart.now.entries.nonterminals self.now.chart.now.slots.cells.now) tried.weight tried.value.value tried.node.begin tried.node.end left right) result }
+    {
+        (tried.node.begin + 1..tried.node.end).find(|&cut| self.pair_attains(
+            tried, left, right, cut,
+        ))
+    }
+
+    // The cut of a leaf rule, the span's end, where it attains the cost.
+    fn leaf_cut(&self, tried: Attempt, code: u8) -> Option<usize>
+        requires within { tried.node.end ≤ self.now.chart.now.entries.count }
+        ensures { FirstOf (LeafAttains (state self.now.chart.now.entries).entries tried.weight tried.value.value tried.node.begin tried.node.end code) result }
+    {
+        let node = tried.node;
+        let attains = node.begin + 1 == node.end
+            && tried.weight == tried.value
+            && self.entry(node.begin).has(code);
+        attains.then_some(node.end)
+    }
+
+    // The smallest cut at which a rule attains the cost.
+    fn first_cut(&self, tried: Attempt, expansion: Expansion) -> Option<usize>
+        requires within { tried.node.end ≤ self.now.chart.now.entries.count }
+        requires names { Names self.now.chart.now.entries.nonterminals expansion }
+        ensures { FirstOf (Attains (state self.now.chart.now.entries).entries (cell_at cost self.now.chart.now.entries.nonterminals self.now.chart.now.slots.cells.now) tried.weight tried.value.value tried.node.begin tried.node.end expansion) result }
+    {
+        match expansion {
+            Expansion::Leaf { code } => self.leaf_cut(tried, code),
+            Expansion::Pair { left, right } => self.first_pair_cut(tried, left, right),
         }
     }
-    None
-}
 
-// The cut of a leaf rule of this weight, the span's end, where it attains the cost of the span.
-fn leaf_cut(
-    chart: &Chart<'_, Cost>,
-    begin: usize,
-    end: usize,
-    code: u8,
-    weight: Cost,
-    value: u32,
-) -> Option<usize>
-    requires span { begin < end }
-    requires within { end ≤ chart.now.entries.count }
-    ensures { FirstOf (LeafAttains (state chart.now.entries).entries weight value begin end code) result }
-{
-    if begin + 1 == end && weight.value == value && entry(chart, begin).has(code) {
-        Some(end)
-    } else {
-        None
-    }
-}
-
-// The smallest cut at which a rule of this weight attains the cost of the span.
-fn first_cut(
-    chart: &Chart<'_, Cost>,
-    begin: usize,
-    end: usize,
-    expansion: Expansion,
-    weight: Cost,
-    value: u32,
-) -> Option<usize>
-    requires span { begin < end }
-    requires within { end ≤ chart.now.entries.count }
-    requires names { Names chart.now.entries.nonterminals expansion }
-    ensures { FirstOf (Attains (state chart.now.entries).entries (cell_at cost chart.now.entries.nonterminals chart.now.slots.cells.now) weight value begin end expansion) result }
-{
-    match expansion {
-        Expansion::Leaf { code } => leaf_cut(chart, begin, end, code, weight, value),
-        Expansion::Pair { left, right } => first_pair_cut(
-            chart, begin, end, left, right, weight, value,
-        ),
-    }
-}
-
-// The nonterminals of the two parts of a span; a leaf has no parts.
-fn parts(expansion: Expansion) -> (u32, u32)
-    ensures { Parts expansion result.0 result.1 }
-{
-    match expansion {
-        Expansion::Pair { left, right } => (left, right),
-        Expansion::Leaf { code: _ } => (0, 0),
-    }
-}
-
-// The rival of the rule at this number with the smallest cut, if there is one.
-fn rival_of<G: Grammar, W: Costing>(
-    chart: &Chart<'_, Cost>,
-    grammar: &G,
-    weighing: &W,
-    node: Node,
-    number: u32,
-) -> Option<Choice>
-    requires same { (G.meaning grammar.now).nonterminals ≡ chart.now.entries.nonterminals }
-    requires span { node.begin < node.end }
-    requires within { node.end ≤ chart.now.entries.count }
-    requires named { node.nonterminal < chart.now.entries.nonterminals }
-    ensures { PickedAt (Rival (by (W.costs weighing.now)) (G.meaning grammar.now) (state chart.now.entries).entries (cell_at cost chart.now.entries.nonterminals chart.now.slots.cells.now) node.begin node.end node.nonterminal) (G.meaning grammar.now) number result }
-{
-    let rule = grammar.rule(number)?;
-    if rule.lhs != node.nonterminal {
-        return None;
-    }
-    let weight = weighing.cost_of(&rule);
-    let value = cell(chart, node.begin, node.end, node.nonterminal).value;
-    let cut = first_cut(chart, node.begin, node.end, rule.expansion, weight, value)?;
-    let (left, right) = parts(rule.expansion);
-    Some(Choice {
-        number,
-        bottom: rule.bottom,
-        left,
-        right,
-        cut,
-    })
-}
-
-// Whether the rule at this number has a rival.
-fn has_rival<G: Grammar, W: Costing>(
-    chart: &Chart<'_, Cost>,
-    grammar: &G,
-    weighing: &W,
-    node: Node,
-    number: u32,
-) -> bool
-    requires same { (G.meaning grammar.now).nonterminals ≡ chart.now.entries.nonterminals }
-    requires span { node.begin < node.end }
-    requires within { node.end ≤ chart.now.entries.count }
-    requires named { node.nonterminal < chart.now.entries.nonterminals }
-    ensures { Says result (HasRival (by (W.costs weighing.now)) (G.meaning grammar.now) (state chart.now.entries).entries (cell_at cost chart.now.entries.nonterminals chart.now.slots.cells.now) node.begin node.end node.nonterminal number) }
-{
-    match rival_of(chart, grammar, weighing, node, number) {
-        Some(_) => true,
-        None => false,
-    }
-}
-
-// The lowest rule number that has a rival, if there is one.
-fn first_rule<G: Grammar, W: Costing>(
-    chart: &Chart<'_, Cost>,
-    grammar: &G,
-    weighing: &W,
-    node: Node,
-) -> Option<u32>
-    requires same { (G.meaning grammar.now).nonterminals ≡ chart.now.entries.nonterminals }
-    requires span { node.begin < node.end }
-    requires within { node.end ≤ chart.now.entries.count }
-    requires named { node.nonterminal < chart.now.entries.nonterminals }
-    ensures { FirstBelow (G.meaning grammar.now).bound (HasRival (by (W.costs weighing.now)) (G.meaning grammar.now) (state chart.now.entries).entries (cell_at cost chart.now.entries.nonterminals chart.now.slots.cells.now) node.begin node.end node.nonterminal) result }
-{
-    for number in 0..grammar.bound() {
-        if has_rival(chart, grammar, weighing, node, number) {
-            return Some(number);
+    // The rival of the rule at this number with the smallest cut, if there is one.
+    fn rival_of(&self, node: Node, number: u32) -> Option<Choice>
+        requires { InUse self.now.chart.now.entries node }
+        ensures { PickedAt (ChartRival (W.weight self.now.weighing.now) (G.meaning self.now.grammar.now) self.now.chart.now.entries self.now.chart.now.slots.cells.now node) (G.meaning self.now.grammar.now) number result }
+    {
+        let rule = self.grammar.rule(number)?;
+        if rule.lhs != node.nonterminal {
+            return None;
         }
+        let tried = Attempt {
+            node,
+            weight: self.weighing.weigh(&rule),
+            value: self.cell(node),
+        };
+        let cut = self.first_cut(tried, rule.expansion)?;
+        Some(Choice { rule, cut })
     }
-    None
-}
 
-// The first rival at a node, if there is one: by rule number, then by cut.
-pub(crate) fn first_rival<G: Grammar, W: Costing>(
-    chart: &Chart<'_, Cost>,
-    grammar: &G,
-    weighing: &W,
-    node: Node,
-) -> Option<Choice>
-    requires same { (G.meaning grammar.now).nonterminals ≡ chart.now.entries.nonterminals }
-    requires span { node.begin < node.end }
-    requires within { node.end ≤ chart.now.entries.count }
-    requires named { node.nonterminal < chart.now.entries.nonterminals }
-    ensures { PickedOf (Rival (by (W.costs weighing.now)) (G.meaning grammar.now) (state chart.now.entries).entries (cell_at cost chart.now.entries.nonterminals chart.now.slots.cells.now) node.begin node.end node.nonterminal) (G.meaning grammar.now) result }
-{
-    match first_rule(chart, grammar, weighing, node) {
-        Some(number) => rival_of(chart, grammar, weighing, node, number),
-        None => None,
+    // The first rival at a node, if there is one: by rule number, then by cut.
+    pub(crate) fn first_rival(&self, node: Node) -> Option<Choice>
+        requires { InUse self.now.chart.now.entries node }
+        ensures { PickedOf (ChartRival (W.weight self.now.weighing.now) (G.meaning self.now.grammar.now) self.now.chart.now.entries self.now.chart.now.slots.cells.now node) (G.meaning self.now.grammar.now) result }
+    {
+        (0..self.grammar.bound()).find_map(|number| self.rival_of(node, number))
     }
 }

@@ -1,12 +1,11 @@
 // The start of a tree, and whether there is one with room for its records.
-ghost use Rattle.std.specs.Prelude.{◌≡◌, ℕ, ◌<◌, ◌≤◌};
+ghost use Rattle.std.specs.Prelude.{◌≡◌, ◌<◌, ◌≤◌};
 ghost use Rattle.semiring.specs.Costs.{cost};
 ghost use Rattle.chart.specs.Cells.{cell_at};
-ghost use Rattle.tree.specs.Steps.{FirstOf, StartAttains};
+ghost use Rattle.tree.specs.Steps.{Says, FirstOf, StartAttains};
 ghost use Rattle.tree.specs.Trees.{nodes_answer};
 
-use super::reads::cell;
-use chart::chart::Chart;
+use super::reading::Reading;
 use grammar::grammar::Grammar;
 use grammar::refusal::Refusal;
 use semiring::cost::Cost;
@@ -16,7 +15,7 @@ pub(crate) fn node_count(total: Cost, count: usize, records: usize) -> Result<us
     requires { count ≤ 64 }
     ensures { result ≡ nodes_answer total count records }
 {
-    if total.value == u32::MAX {
+    if total.is_none() {
         return Err(Refusal::NoDerivation);
     }
     let nodes = (2 * count).saturating_sub(1);
@@ -27,22 +26,22 @@ pub(crate) fn node_count(total: Cost, count: usize, records: usize) -> Result<us
     }
 }
 
-// The lowest start whose cell of the first `end` entries has this value.
-pub(crate) fn first_start<G: Grammar>(
-    chart: &Chart<'_, Cost>,
-    grammar: &G,
-    end: usize,
-    value: u32,
-) -> Option<u32>
-    requires some { 0 < end }
-    requires within { end ≤ chart.now.entries.count }
-    requires same { (G.meaning grammar.now).nonterminals ≡ chart.now.entries.nonterminals }
-    ensures { FirstOf (StartAttains (G.meaning grammar.now) (G.meaning grammar.now).nonterminals (cell_at cost chart.now.entries.nonterminals chart.now.slots.cells.now 0 end) value) result }
-{
-    for a in 0..grammar.nonterminals() {
-        if grammar.is_start(a) && cell(chart, 0, end, a).value == value {
-            return Some(a);
-        }
+impl<G: Grammar, W> Reading<'_, '_, G, W> {
+    // Whether a nonterminal is a start whose cell of the first `end` entries has this cost.
+    fn start_attains(&self, a: u32, end: usize, value: Cost) -> bool
+        requires some { 0 < end }
+        requires within { end ≤ self.now.chart.now.entries.count }
+        ensures { Says result (StartAttains (G.meaning self.now.grammar.now) (G.meaning self.now.grammar.now).nonterminals (cell_at cost self.now.chart.now.entries.nonterminals self.now.chart.now.slots.cells.now 0 end) value.value a) }
+    {
+        self.grammar.is_start(a) && self.chart.cell(0, end, a) == Some(value)
     }
-    None
+
+    // The lowest start whose cell of the first `end` entries has this cost.
+    pub(crate) fn first_start(&self, end: usize, value: Cost) -> Option<u32>
+        requires some { 0 < end }
+        requires within { end ≤ self.now.chart.now.entries.count }
+        ensures { FirstOf (StartAttains (G.meaning self.now.grammar.now) (G.meaning self.now.grammar.now).nonterminals (cell_at cost self.now.chart.now.entries.nonterminals self.now.chart.now.slots.cells.now 0 end) value.value) result }
+    {
+        (0..self.grammar.nonterminals()).find(|&a| self.start_attains(a, end, value))
+    }
 }

@@ -68,7 +68,3 @@ write_refused k from code to = unless_in_range (nat_lt from k.states && nat_lt c
 -- the step is written, unless that is refused
 abbrev pub written_to : ℕ → ℕ → ℕ → Machine → Machine
 written_to from code to k = if_refused (write_refused k from code to) k (written from code to k)
-
--- what stands at a place of the rows in which each state stays
-abbrev pub stay_at : ℕ → ℕ → ℕ
-stay_at states i = cond (nat_lt (i / 32) states) (i / 32) 0

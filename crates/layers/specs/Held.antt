@@ -1,5 +1,5 @@
 -- What the values of this crate stand for: a list of bans, a recorder, and the meaning of each layer by that of the grammar below. Assumes nothing.
-use Rattle.std.specs.Prelude.{ℕ, cond, List, take, None, Option, nat_lt, slice_index_or}
+use Rattle.std.specs.Prelude.{ℕ, cond, List, None, Option, nat_lt, slice_index_or}
 use Rattle.grammar.specs.Grammars.{Meaning}
 use Rattle.automata.specs.Machines.{Machine}
 use Rattle.layers.specs.declared.bans.Bans.{Bans}
@@ -15,7 +15,7 @@ use Rattle.layers.specs.Renaming.{Recorder, renaming}
 
 -- the banned numbers, as they were added
 abbrev pub banned : Bans → List ℕ
-banned b = take b.count b.numbers
+banned b = b.numbers.items
 
 -- how the first `count` places read
 abbrev pub read_at : ℕ → List (Option ℕ) → ℕ → Option ℕ

@@ -18,21 +18,13 @@ pub struct Ban<G> {
 
 impl<G: Grammar> Ban<G> {
     // Lays a ban; it is always accepted.
+    #[tactic(auto, using(crate::proofs::Banned::ban_matches, crate::proofs::Banned::ban_passes))]
     pub fn lay(below: G, bans: Bans) -> Ban<G>
         ensures means { ban_meaning G.meaning result ≡ ban (banned bans) (G.meaning below) }
         ensures matches { BanMatches OneForOne (banned bans) (G.meaning below) (ban_meaning G.meaning result) }
         ensures passes { PassesThrough (ban_meaning G.meaning result) (G.meaning below) (λ n. n) }
     {
-        Ban { below, bans }.matched()
-    }
-
-    // The layer itself; the contract is the theorem about it.
-    fn matched(self) -> Ban<G>
-        ensures same { result ≡ self }
-        ensures matches { BanMatches OneForOne (banned self.bans) (G.meaning self.below) (ban_meaning G.meaning self) }
-        ensures passes { PassesThrough (ban_meaning G.meaning self) (G.meaning self.below) (λ n. n) }
-    {
-        self
+        Ban { below, bans }
     }
 }
 

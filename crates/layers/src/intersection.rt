@@ -1,6 +1,6 @@
 // The grammar below crossed with an automaton. The derivations from (p, A, r) match those below from A of the words that lead from p to r.
 ghost use Rattle.std.specs.Prelude.{◌≡◌, ◌/◌, ◌<◌, ◌≤◌, Some, None};
-ghost use Rattle.layers.specs.Intersection.{intersection, intersection_refused, crossed as crossed_number, crossed_any, cube, is, Small};
+ghost use Rattle.layers.specs.Intersection.{intersection, intersection_refused, crossed as crossed_number, crossed_any, cube, Small};
 ghost use Rattle.layers.specs.Matching.{OneForOne, PassesThrough};
 ghost use Rattle.layers.specs.Promises.{IntersectionMatches};
 ghost use Rattle.layers.specs.Held.{intersection_meaning};
@@ -27,28 +27,19 @@ impl<G: Grammar, M: Automaton> Intersection<G, M> {
     {
         let layer = Intersection { below, automaton };
         let why = layer.refused();
-        layer.matched(why)
+        (layer, why)
     }
 
-    // The layer itself and its refusal; the contract is the theorem about it.
-    fn matched(self, why: Option<Refusal>) -> (Intersection<G, M>, Option<Refusal>)
-        requires { why ≡ intersection_refused (M.machine self.automaton) (G.meaning self.below) }
-        ensures same { result ≡ (self, why) }
-        ensures matches { why ≡ None → IntersectionMatches OneForOne (M.machine self.automaton) (G.meaning self.below) (intersection_meaning G.meaning M.machine self) }
-        ensures passes { why ≡ None → PassesThrough (intersection_meaning G.meaning M.machine self) (G.meaning self.below) (λ n. n / cube (M.machine self.automaton).states) }
-    {
-        (self, why)
-    }
-
+    // Why the layer is blank, or none. It is worked out at each question from what the layer holds, and not kept.
     fn refused(&self) -> Option<Refusal>
         ensures { result ≡ intersection_refused (M.machine self.now.automaton) (G.meaning self.now.below) }
     {
         if self.automaton.codes() < self.below.codes() {
             return Some(Refusal::FewerCodes);
         }
-        let q = self.automaton.states() as u64;
-        let nonterminals = self.below.nonterminals() as u64 * q * q;
-        let bound = self.below.bound() as u64 * q * q * q;
+        let q = u64::from(self.automaton.states());
+        let nonterminals = u64::from(self.below.nonterminals()) * q * q;
+        let bound = u64::from(self.below.bound()) * q * q * q;
         if nonterminals <= 4096 && bound <= 16777216 {
             None
         } else {
@@ -87,22 +78,12 @@ fn cross<M: Automaton>(automaton: &M, p: u32, q: u32, r: u32, rule: Rule) -> Opt
             })
         }
         Expansion::Leaf { code } => {
-            if q == 0 && leads(automaton, p, code, r) {
+            if q == 0 && automaton.step(p, code) == Some(r) {
                 Some(Rule { lhs, ..rule })
             } else {
                 None
             }
         }
-    }
-}
-
-// Whether a step from p on the code leads to r.
-fn leads<M: Automaton>(automaton: &M, p: u32, code: u8, r: u32) -> bool
-    ensures { result ≡ is ((M.machine automaton.now).step p code) r }
-{
-    match automaton.step(p, code) {
-        Some(to) => to == r,
-        None => false,
     }
 }
 
@@ -132,8 +113,8 @@ impl<G: Grammar, M: Automaton> Grammar for Intersection<G, M> {
         match self.refused() {
             Some(_) => 0,
             None => {
-                let q = self.automaton.states() as u64;
-                (self.below.bound() as u64 * q * q * q) as u32
+                let q = u64::from(self.automaton.states());
+                (u64::from(self.below.bound()) * q * q * q) as u32
             }
         }
     }

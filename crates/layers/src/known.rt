@@ -3,12 +3,13 @@ ghost use Rattle.std.specs.Prelude.{◌≡◌};
 ghost use Rattle.layers.specs.Known.{KnownSheets, known_answers};
 
 // How many derivations each known sheet has, and the least of their costs.
+#[tactic(auto, using(crate::proofs::Totals::known_sheets))]
 pub fn known_answers() -> [(u64, u32); 8]
     ensures is { result ≡ known_answers }
     ensures sheets { KnownSheets }
 {
     let none = u32::MAX;
-    proved([
+    [
         (0, none),
         (1, 2),
         (2, 8),
@@ -17,13 +18,5 @@ pub fn known_answers() -> [(u64, u32); 8]
         (3, 6),
         (0, none),
         (2, 2),
-    ])
-}
-
-// The answers themselves; the contract is the theorem.
-fn proved(answers: [(u64, u32); 8]) -> [(u64, u32); 8]
-    ensures same { result ≡ answers }
-    ensures sheets { KnownSheets }
-{
-    answers
+    ]
 }

@@ -9,6 +9,7 @@ use grammar::weighing::Weighing;
 use semiring::semiring::Semiring;
 
 // What the tree of one leaf with this number weighs. Whatever layers a grammar has, its derivations match those that they let through at the bottom, at equal weight.
+#[tactic(auto, using(crate::proofs::Stacked::one_for_one_all, crate::proofs::Stacked::passes_through_all))]
 pub fn leaf_weight<S: Semiring, W: Weighing<Value = S>, G: Grammar>(
     grammar: &G,
     weighing: &W,
@@ -20,17 +21,7 @@ pub fn leaf_weight<S: Semiring, W: Weighing<Value = S>, G: Grammar>(
     ensures weighs { SameWeightAll S.ring }
 {
     match grammar.rule(number) {
-        Some(rule) => matched(weighing.weigh(&rule)),
-        None => matched(S::zero()),
+        Some(rule) => weighing.weigh(&rule),
+        None => S::zero(),
     }
-}
-
-// The weight itself; the contract is the theorems.
-fn matched<S: Semiring>(weight: S) -> S
-    ensures same { result ≡ weight }
-    ensures matches { OneForOneAll }
-    ensures passes { PassesThroughAll }
-    ensures weighs { SameWeightAll S.ring }
-{
-    weight
 }

@@ -1,7 +1,6 @@
 // The grammar below over recorder codes. A word's derivations match those below of the word as read.
 ghost use Rattle.std.specs.Prelude.{◌≡◌, ◌/◌, Some, None};
 ghost use Rattle.layers.specs.Renaming.{renaming, renaming_refused, renamed_any};
-ghost use Rattle.layers.specs.Intersection.{is};
 ghost use Rattle.layers.specs.Matching.{OneForOne, PassesThrough};
 ghost use Rattle.layers.specs.Promises.{RenamingMatches};
 ghost use Rattle.layers.specs.Held.{recorder, renaming_meaning};
@@ -28,23 +27,14 @@ impl<G: Grammar> Renaming<G> {
     {
         let layer = Renaming { below, readings };
         let why = layer.refused();
-        layer.matched(why)
+        (layer, why)
     }
 
-    // The layer itself and its refusal; the contract is the theorem about it.
-    fn matched(self, why: Option<Refusal>) -> (Renaming<G>, Option<Refusal>)
-        requires { why ≡ renaming_refused (recorder self.readings) (G.meaning self.below) }
-        ensures same { result ≡ (self, why) }
-        ensures matches { why ≡ None → RenamingMatches OneForOne (recorder self.readings) (G.meaning self.below) (renaming_meaning G.meaning self) }
-        ensures passes { why ≡ None → PassesThrough (renaming_meaning G.meaning self) (G.meaning self.below) (λ n. n / (recorder self.readings).count) }
-    {
-        (self, why)
-    }
-
+    // Why the layer is blank, or none. It is worked out at each question from what the layer holds, and not kept.
     fn refused(&self) -> Option<Refusal>
         ensures { result ≡ renaming_refused (recorder self.now.readings) (G.meaning self.now.below) }
     {
-        if self.below.bound() as u64 * self.readings.count() as u64 <= 16777216 {
+        if u64::from(self.below.bound()) * u64::from(self.readings.count()) <= 16777216 {
             None
         } else {
             Some(Refusal::TooLarge)
@@ -59,7 +49,7 @@ fn rename(readings: &Readings, b: u8, rule: Rule) -> Option<Rule>
     match rule.expansion {
         Expansion::Pair { left: _, right: _ } => { if b == 0 { Some(rule) } else { None } }
         Expansion::Leaf { code } => {
-            if is_read_as(readings, b, code) {
+            if readings.reading(b) == Some(code) {
                 Some(Rule {
                     expansion: Expansion::Leaf { code: b },
                     ..rule
@@ -68,15 +58,6 @@ fn rename(readings: &Readings, b: u8, rule: Rule) -> Option<Rule>
                 None
             }
         }
-    }
-}
-
-fn is_read_as(readings: &Readings, b: u8, code: u8) -> bool
-    ensures { result ≡ is ((recorder readings.now).read b) code }
-{
-    match readings.reading(b) {
-        Some(read) => read == code,
-        None => false,
     }
 }
 

@@ -16,24 +16,17 @@ pub struct Reversal<G> {
 
 impl<G: Grammar> Reversal<G> {
     // Lays a reversal; it is always accepted.
+    #[tactic(auto, using(crate::proofs::Mirrored::reversal_matches, crate::proofs::Mirrored::reversal_passes))]
     pub fn lay(below: G) -> Reversal<G>
         ensures means { reversal_meaning G.meaning result ≡ reversal (G.meaning below) }
         ensures matches { ReversalMatches OneForOne (G.meaning below) (reversal_meaning G.meaning result) }
         ensures passes { PassesThrough (reversal_meaning G.meaning result) (G.meaning below) (λ n. n) }
     {
-        Reversal { below }.matched()
-    }
-
-    // The layer itself; the contract is the theorem about it.
-    fn matched(self) -> Reversal<G>
-        ensures same { result ≡ self }
-        ensures matches { ReversalMatches OneForOne (G.meaning self.below) (reversal_meaning G.meaning self) }
-        ensures passes { PassesThrough (reversal_meaning G.meaning self) (G.meaning self.below) (λ n. n) }
-    {
-        self
+        Reversal { below }
     }
 }
 
+// A rule with left and right exchanged.
 fn turned(rule: Rule) -> Rule
     ensures { result ≡ turned_rule rule }
 {

@@ -11,3 +11,4 @@ pub mod Fewer
 pub mod Growing
 pub mod Refills
 pub mod Replacing
+pub mod Sized

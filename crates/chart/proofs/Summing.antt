@@ -1,9 +1,10 @@
 -- Known sums stay right while the span is filled. Assumes nothing.
-use Rattle.std.proofs.Common.{ℕ, ◌<◌, List, sym, ◌∙◌, arith}
+use Rattle.std.proofs.Common.{ℕ, ◌<◌, List, sym, ◌∙◌, subst, arith}
+use Rattle.std.proofs.lemmas.List.{length-set}
 use Rattle.semiring.specs.Semirings.{Operations, Laws}
-use Rattle.chart.specs.Cells.{cell_at, added}
+use Rattle.chart.specs.Cells.{cell_at, added, Room}
 use Rattle.chart.specs.Sums.{Known}
-use Rattle.chart.specs.declared.sums.Key.{Key}
+use Rattle.chart.specs.declared.sums.Sum.{Sum}
 use Rattle.chart.proofs.Adding.{other_cell}
 use Rattle.chart.proofs.Places.{place_narrow, place_later}
 use Rattle.chart.proofs.Rows.{Agree, cut_sum_same}
@@ -17,10 +18,10 @@ module _ {S : Type 0} {ops : Operations S} (laws : Laws ops) where
       sym (other_cell laws n xs begin end a v k end c (λ e. omega (arith, e, place_later n begin k end a c l1 ha))),
     )
 
-    pub known_added : (a : ℕ) (v : S) (xs : List S) (keys : List Key) (sums : List S) → a < n
-        → Known ops n begin end xs keys sums → Known ops n begin end (added ops n xs begin end a v) keys sums
-    known_added a v xs keys sums ha known = record {
-      paired = known.paired;
-      each = λ i h left right. known.each i h left right
+    pub known_added : (a : ℕ) (v : S) (xs : List S) (sums : List (Sum S)) → a < n
+        → Known ops n begin end xs sums → Known ops n begin end (added ops n xs begin end a v) sums
+    known_added a v xs sums ha known = record {
+      room = subst (Room n end) (sym (length-set xs _ _)) known.room;
+      each = λ i d h left right. known.each i d h left right
           ∙ cut_sum_same laws n (cell_at ops n xs) (cell_at ops n (added ops n xs begin end a v)) begin end _ _ left right (agree_added xs a v ha);
     }

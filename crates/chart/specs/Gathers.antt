@@ -1,5 +1,5 @@
 -- The rules of a grammar, gathered into a list. Assumes nothing.
-use Rattle.std.specs.Prelude.{◌≡◌, ℕ, zero, suc, ◌+◌, ◌<◌, ◌≤◌, List, [], ◌∷◌, ◌++◌, length, take, Some, None, Option, slice_set}
+use Rattle.std.specs.Prelude.{◌≡◌, ℕ, zero, suc, ◌+◌, ◌<◌, ◌≤◌, List, [], ◌∷◌, ◌++◌, take, Some, None, Option, slice_set}
 use Rattle.grammar.specs.declared.rule.Rule.{Rule}
 use Rattle.grammar.specs.Grammars.{Meaning}
 use Rattle.chart.specs.Cells.{Names}
@@ -19,20 +19,11 @@ unfoldable pub rules_below : Meaning → ℕ → List Rule
 rules_below m zero = []
 rules_below m (suc k) = pushed (rules_below m k) (m.rule k)
 
--- no rules yet
-pub record Blank (g : Gathered) : Type 0 where
-  pub sized : length g.list ≡ 256
-  pub count : g.count ≡ 0
-  pub next : g.next ≡ 0
-
--- with the rule that there may be at the next number
-abbrev pub taken : Gathered → Option Rule → Gathered
-taken g None = record { list = g.list; count = g.count; next = g.next + 1 }
-taken g (Some r) = record { list = slice_set g.list g.count r; count = g.count + 1; next = g.next + 1 }
+-- the rules at hand
+abbrev pub at_hand : Gathered → List Rule
+at_hand g = take g.count g.list
 
 -- the rules of the numbers below `next` are at hand
 pub record Gathers (m : Meaning) (g : Gathered) : Type 0 where
-  pub sized : length g.list ≡ 256
-  pub few : g.count ≤ 256
   pub below : g.next ≤ m.bound
-  pub rules : take g.count g.list ≡ rules_below m g.next
+  pub rules : at_hand g ≡ rules_below m g.next

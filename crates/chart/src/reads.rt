@@ -9,6 +9,7 @@ ghost use Rattle.chart.specs.Reads.{cell_answer, total_answer};
 
 use super::chart::Chart;
 use super::slots::Slots;
+use super::span::Span;
 use entries::list::Entries;
 use grammar::grammar::Grammar;
 use grammar::refusal::Refusal;
@@ -41,10 +42,12 @@ impl<'a, S: Semiring> Chart<'a, S> {
     {
         let n = self.entries.nonterminals();
         if begin < end && end <= self.entries.len() && nonterminal < n {
-            Some(
-                self.slots
-                    .cell(n as usize, begin, end, nonterminal as usize),
-            )
+            let span = Span {
+                begin,
+                end,
+                cells: n as usize,
+            };
+            Some(self.slots.cell(span, nonterminal as usize))
         } else {
             None
         }
@@ -78,12 +81,12 @@ impl<'a, S: Semiring> Chart<'a, S> {
         if !grammar.is_start(a) {
             return S::zero();
         }
-        self.slots.cell(
-            self.entries.nonterminals() as usize,
-            0,
-            self.entries.len(),
-            a as usize,
-        )
+        let whole = Span {
+            begin: 0,
+            end: self.entries.len(),
+            cells: self.entries.nonterminals() as usize,
+        };
+        self.slots.cell(whole, a as usize)
     }
 
     // The slots, given back.

@@ -5,8 +5,11 @@ ghost use Rattle.chart.specs.Cells as cells;
 ghost use Rattle.chart.specs.Columns as columns;
 ghost use Rattle.entries.specs.Model.{state};
 
-use super::cells::cell;
-use super::columns::{fill_column, refill};
+use super::cells::Cells;
+use super::filling::Filling;
+use super::gathered::Gathered;
+use super::refilling::refill;
+use super::span::Span;
 use entries::entry::Entry;
 use entries::list::Entries;
 use grammar::grammar::Grammar;
@@ -26,14 +29,17 @@ impl<'a, S: Semiring> Slots<'a, S> {
         self.cells.len()
     }
 
-    // The value of a cell.
-    pub(crate) fn cell(&self, n: usize, begin: usize, end: usize, a: usize) -> S
-        requires room { cells.Room n end (length self.now.cells.now) }
-        requires span { begin < end }
-        requires named { a < n }
-        ensures { result ≡ cells.cell_at S.ring n self.now.cells.now begin end a }
+    // The value of the cell of a span and `a`.
+    pub(crate) fn cell(&self, span: Span, a: usize) -> S
+        requires room { cells.Room span.cells span.end (length self.now.cells.now) }
+        requires named { a < span.cells }
+        ensures { result ≡ cells.cell_at S.ring span.cells self.now.cells.now span.begin span.end a }
     {
-        cell(&*self.cells, n, begin, end, a)
+        Cells {
+            slots: &*self.cells,
+            span,
+        }
+        .value(a)
     }
 
     // Fills the spans that end at `end`, whose last entry is `last`.
@@ -50,7 +56,19 @@ impl<'a, S: Semiring> Slots<'a, S> {
         ensures long { length self.new.cells.now ≡ length self.old.cells.now }
         ensures named { self.new.cells.ghost_name ≡ self.old.cells.ghost_name }
     {
-        fill_column(&mut *self.cells, grammar, weighing, end, end, last);
+        let cells = grammar.nonterminals() as usize;
+        let column = Filling {
+            grammar,
+            weighing,
+            gathered: &Gathered::of(grammar),
+            span: Span {
+                begin: 0,
+                end,
+                cells,
+            },
+            last,
+        };
+        column.fill_column(&mut *self.cells, end);
     }
 
     // Fills anew the spans in use that cover entry `k`.

@@ -1,28 +1,22 @@
 // Sums over cuts that are worked out once for a span: the rules to the same pair share one.
-ghost use Rattle.std.specs.Prelude.{◌≡◌, ◌<◌, ◌≤◌, T, length};
+ghost use Rattle.std.specs.Prelude.{◌≡◌, ◌+◌, ◌<◌, ◌≤◌, length};
 ghost use Rattle.chart.specs.Cells as cells;
 ghost use Rattle.chart.specs.Sums.{Known, KnownAt};
 
-use super::cells::cut_sum;
+use super::cells::Cells;
+use super::span::Span;
 use grammar::rule::{Expansion, Rule};
 use semiring::semiring::Semiring;
 
 // The pair of nonterminals of which a sum is.
-#[derive(Clone, Copy)]
+#[derive(Clone, Copy, PartialEq, Eq)]
 pub(crate) struct Key {
     pub(crate) left: u32,
     pub(crate) right: u32,
 }
 
 impl Key {
-    // Whether two keys are the same.
-    fn is(self, other: Key) -> bool
-        ensures { T result → self ≡ other }
-    {
-        self.left == other.left && self.right == other.right
-    }
-
-    // Its place among the keys.
+    // Its place among the sums.
     fn place(self) -> usize
         ensures { result < 64 }
     {
@@ -30,15 +24,22 @@ impl Key {
     }
 }
 
+// The sum of a key.
+#[derive(Clone, Copy)]
+pub(crate) struct Sum<S> {
+    pub(crate) key: Key,
+    pub(crate) value: S,
+}
+
 // Notes the pair of a rule at its place, and answers how many places there are up to it.
-fn note_pair(keys: &mut [Key], rule: &Rule) -> usize
-    ensures { result ≤ length keys.old }
+fn note_pair<S: Copy>(sums: &mut [Sum<S>], rule: &Rule) -> usize
+    ensures { result ≤ length sums.old }
 {
     if let Expansion::Pair { left, right } = rule.expansion {
         let key = Key { left, right };
         let at = key.place();
-        if at < keys.len() {
-            keys[at] = key;
+        if at < sums.len() {
+            sums[at].key = key;
             return at + 1;
         }
     }
@@ -46,69 +47,85 @@ fn note_pair(keys: &mut [Key], rule: &Rule) -> usize
 }
 
 // Notes the pairs of rules, the last one at each place, and answers how many places are in use. Any keys would do: they decide which sums are shared.
-pub(crate) fn note_pairs(keys: &mut [Key], rules: &[Rule]) -> usize
-    ensures { result ≤ length keys.old }
+pub(crate) fn note_pairs<S: Copy>(sums: &mut [Sum<S>], rules: &[Rule]) -> usize
+    ensures { result ≤ length sums.old }
 {
     let mut used = 0;
     for rule in rules {
-        used = used.max(note_pair(keys, rule));
+        used = used.max(note_pair(sums, rule));
     }
     used
 }
 
-// The sum of a key at a span; zero where the key names no two nonterminals.
-fn pair_sum<S: Semiring>(slots: &[S], n: usize, begin: usize, end: usize, key: Key) -> S
-    requires room { cells.Room n end (length slots.now) }
-    requires span { begin < end }
-    ensures { KnownAt S.ring n begin end slots.now key result }
+// The sum with a cut more: the left part times the right part.
+fn with_cut<S: Semiring>(sum: S, left: S, right: S) -> S
+    ensures { result ≡ S.ring.plus sum (S.ring.times left right) }
 {
-    let left = key.left as usize;
-    let right = key.right as usize;
-    if left < n && right < n {
-        cut_sum(slots, n, begin, end, left, right)
-    } else {
-        S::zero()
-    }
+    sum.add_product(left, right)
 }
 
-// Works out the sum of each key at a span.
-pub(crate) fn sum_pairs<S: Semiring>(
-    slots: &[S],
-    keys: &[Key],
-    sums: &mut [S],
-    n: usize,
-    begin: usize,
-    end: usize,
-)
-    requires room { cells.Room n end (length slots.now) }
-    requires span { begin < end }
-    requires paired { length sums.old ≤ length keys.now }
-    ensures { Known S.ring n begin end slots.now keys.now sums.new }
-{
-    for i in 0..sums.len() {
-        sums[i] = pair_sum(slots, n, begin, end, keys[i]);
+impl<'a, S: Semiring> Cells<'a, S> {
+    // The sum over the cuts of the span of the left cell times the right cell, with running slots of the two.
+    fn cut_sum(&self, left: usize, right: usize) -> S
+        requires { (left < self.now.span.cells) × (right < self.now.span.cells) }
+        ensures { result ≡ cells.cut_sum S.ring (cells.cell_at S.ring self.now.span.cells self.now.slots.now) self.now.span.begin self.now.span.end left right }
+    {
+        let Span { begin, end, cells } = self.span;
+        let mut sum = S::zero();
+        if self.span.is_single() {
+            return sum;
+        }
+        let mut l = Span {
+            begin,
+            end: begin + 1,
+            cells,
+        }
+        .slot(left);
+        let mut r = Span {
+            begin: begin + 1,
+            end,
+            cells,
+        }
+        .slot(right);
+        for k in 0..self.span.cuts() {
+            sum = with_cut(sum, self.slots[l], self.slots[r]);
+            l += (begin + 1 + k) * cells;
+            r += cells;
+        }
+        sum
     }
-}
 
-// The sum over the cuts of a span: the one at the pair's place, if that is of this pair, or else it is worked out.
-pub(crate) fn known_sum<S: Semiring>(
-    slots: &[S],
-    keys: &[Key],
-    sums: &[S],
-    n: usize,
-    begin: usize,
-    end: usize,
-    key: Key,
-) -> S
-    requires room { cells.Room n end (length slots.now) }
-    requires span { begin < end }
-    requires names { (key.left < n) × (key.right < n) }
-    requires known { Known S.ring n begin end slots.now keys.now sums.now }
-    ensures { result ≡ cells.cut_sum S.ring (cells.cell_at S.ring n slots.now) begin end key.left key.right }
-{
-    let at = key.place();
-    if at < sums.len() && keys[at].is(key) {
-        return sums[at];
+    // The sum of a key; zero where the key names no two nonterminals.
+    fn pair_sum(&self, key: Key) -> S
+        ensures { KnownAt S.ring self.now.span.cells self.now.span.begin self.now.span.end self.now.slots.now key result }
+    {
+        let left = key.left as usize;
+        let right = key.right as usize;
+        if left < self.span.cells && right < self.span.cells {
+            self.cut_sum(left, right)
+        } else {
+            S::zero()
+        }
     }
-    cut_sum(slots, n, begin, end, key.left as usize, key.right as usize)
+
+    // Works out the sum of each key.
+    pub(crate) fn sum_pairs(&self, sums: &mut [Sum<S>])
+        ensures { Known S.ring self.now.span.cells self.now.span.begin self.now.span.end self.now.slots.now sums.new }
+    {
+        for sum in sums.iter_mut() {
+            sum.value = self.pair_sum(sum.key);
+        }
+    }
+
+    // The sum over the cuts of the span: the one at the pair's place, if that is of this pair, or else it is worked out.
+    pub(crate) fn known_sum(&self, sums: &[Sum<S>], key: Key) -> S
+        requires names { (key.left < self.now.span.cells) × (key.right < self.now.span.cells) }
+        requires known { Known S.ring self.now.span.cells self.now.span.begin self.now.span.end self.now.slots.now sums.now }
+        ensures { result ≡ cells.cut_sum S.ring (cells.cell_at S.ring self.now.span.cells self.now.slots.now) self.now.span.begin self.now.span.end key.left key.right }
+    {
+        match sums.get(key.place()) {
+            Some(sum) if sum.key == key => sum.value,
+            _ => self.cut_sum(key.left as usize, key.right as usize),
+        }
+    }
 }

@@ -11,6 +11,5 @@ cell-requires g c =
     record {
       room = subst (λ n. Room n c.args.end slots) (sym c.nonterminals-n.ensures)
           (room_before e.nonterminals c.args.end e.count slots (omega arith) (record { few = e.few; narrow = t.narrow; fits = t.room }));
-      span = omega arith;
       named = omega arith;
     }

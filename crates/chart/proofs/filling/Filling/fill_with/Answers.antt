@@ -1,0 +1,13 @@
+use Rattle.std.proofs.Common.{subst}
+use Rattle.grammar.specs.Totals.{by}
+use Rattle.chart.specs.Columns.{Cleared}
+use Rattle.chart.proofs.ColumnSteps.{column_none, column_after}
+use Rattle.chart.proofs.filling.Filling.fill_with.Goals as goal
+
+pub fill_rows-requires-clause-zero : goal.fill_rows-requires-clause-zero
+fill_rows-requires-clause-zero g c =
+    let f = c.args.self.now in
+    let ring = g.W.Value.Semiring.ring in
+    let ys = c.clear_column.new.slots in
+    column_none g.met.W.Value.Semiring.laws (by (g.W.Weighing.weight f.weighing.now)) (g.G.Grammar.meaning f.grammar.now) f.last.bits c.args.upto f.span.end c.args.slots.now ys
+    (subst (λ n. Cleared ring n f.span.end c.args.upto c.args.slots.now ys) f.own c.clear_column.ensures)

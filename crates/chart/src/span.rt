@@ -1,0 +1,38 @@
+// A span of entries, and which slots its cells are in.
+ghost use Rattle.std.specs.Prelude.{◌≡◌, ◌+◌, ◌-◌, ◌<◌, ◌≤◌, ◌==◌};
+ghost use Rattle.chart.specs.Cells.{place};
+
+// The entries from `begin` to before `end`, with so many cells: one for each nonterminal.
+#[derive(Clone, Copy)]
+pub(crate) struct Span {
+    pub(crate) begin: usize,
+    pub(crate) end: usize,
+    pub(crate) cells: usize,
+    ghost some: { begin < end },
+    ghost few: { end ≤ 64 },
+    ghost narrow: { cells ≤ 4096 },
+}
+
+impl Span {
+    // The slot of the cell of `a`.
+    pub(crate) fn slot(self, a: usize) -> usize
+        requires { a < self.cells }
+        ensures { result ≡ place self.cells self.begin self.end a }
+    {
+        (self.end * (self.end - 1) / 2 + self.begin) * self.cells + a
+    }
+
+    // How many cuts it has: places between two of its entries.
+    pub(crate) fn cuts(self) -> usize
+        ensures { result ≡ self.end - (self.begin + 1) }
+    {
+        self.end - self.begin - 1
+    }
+
+    // Whether it is one entry.
+    pub(crate) fn is_single(self) -> bool
+        ensures { result ≡ (self.begin + 1 == self.end) }
+    {
+        self.begin + 1 == self.end
+    }
+}

@@ -1,8 +1,9 @@
 // Known sheets with their counts and costs.
-use crate::rules::{BLANK, known_rules};
+use crate::rules::known_rules;
 use chart::chart::Chart;
 use grammar::grammar::Grammar;
 use grammar::refusal::Refusal;
+use grammar::rule::Rule;
 use grammar::weighing::{CostWeighing, UnitWeighing, Weighing};
 use semiring::cost::Cost;
 use semiring::count::Count;
@@ -99,7 +100,7 @@ pub(crate) fn check_sheet<G: Grammar>(
 
 #[test]
 fn counts_and_costs(rt: HostRuntime) -> Result<(), Fail> {
-    let mut rows = [BLANK; 3];
+    let mut rows = [Rule::BLANK; 3];
     let grammar = known_rules(&mut rows);
     for sheet in SHEETS {
         check_sheet(&rt, &grammar, sheet)?;

@@ -1,27 +1,18 @@
 // Known sheets under an intersection, a ban, a renaming, and a stack of all layers.
 use crate::known::{Sheet, check_sheet};
-use crate::rules::{BLANK, known_rules};
+use crate::rules::{known_readings, known_rules};
 use automata::counting::CountingAutomaton;
+use grammar::rule::Rule;
 use layers::ban::Ban;
 use layers::bans::Bans;
 use layers::intersection::Intersection;
-use layers::readings::Readings;
 use layers::renaming::Renaming;
 use layers::reversal::Reversal;
 use std::test::Fail;
 
-// The recorder codes 0, 1, 2, read as 0, 0, 1.
-fn known_readings() -> Readings {
-    let (mut readings, _) = Readings::new(3);
-    let _ = readings.read_as(0, 0);
-    let _ = readings.read_as(1, 0);
-    let _ = readings.read_as(2, 1);
-    readings
-}
-
 #[test]
 fn one_layer(rt: HostRuntime) -> Result<(), Fail> {
-    let mut rows = [BLANK; 3];
+    let mut rows = [Rule::BLANK; 3];
     let (automaton, _) = CountingAutomaton::new(2, 1, 1);
     let (crossed, _) = Intersection::lay(known_rules(&mut rows), automaton);
     check_sheet(
@@ -34,7 +25,7 @@ fn one_layer(rt: HostRuntime) -> Result<(), Fail> {
             cost: 6,
         },
     )?;
-    let mut rows = [BLANK; 3];
+    let mut rows = [Rule::BLANK; 3];
     let mut bans = Bans::none();
     let _ = bans.add(0);
     check_sheet(
@@ -47,7 +38,7 @@ fn one_layer(rt: HostRuntime) -> Result<(), Fail> {
             cost: u32::MAX,
         },
     )?;
-    let mut rows = [BLANK; 3];
+    let mut rows = [Rule::BLANK; 3];
     let (renamed, _) = Renaming::lay(known_rules(&mut rows), known_readings());
     check_sheet(
         &rt,
@@ -64,7 +55,7 @@ fn one_layer(rt: HostRuntime) -> Result<(), Fail> {
 // Of the nine words of recorder codes, the five with a code that is read as 1 have one derivation each.
 #[test]
 fn all_layers(rt: HostRuntime) -> Result<(), Fail> {
-    let mut rows = [BLANK; 3];
+    let mut rows = [Rule::BLANK; 3];
     let (automaton, _) = CountingAutomaton::new(2, 1, 1);
     let (crossed, _) = Intersection::lay(Ban::lay(known_rules(&mut rows), Bans::none()), automaton);
     let (renamed, _) = Renaming::lay(crossed, known_readings());

@@ -1,9 +1,10 @@
 // A list of calls with refusals in between: the answers, and each cell beside that of a chart filled anew.
-use crate::rules::{BLANK, known_rules};
+use crate::rules::known_rules;
 use chart::chart::Chart;
 use entries::call::Call;
 use grammar::grammar::Grammar;
 use grammar::refusal::Refusal;
+use grammar::rule::Rule;
 use grammar::weighing::UnitWeighing;
 use runs::replay::{Replayed, replay};
 use semiring::cost::Cost;
@@ -74,13 +75,6 @@ const SPANS: [(usize, usize); 8] = [
     (0, 4),
 ];
 
-fn value(cell: Option<Count>) -> Option<u64> {
-    match cell {
-        Some(count) => Some(count.value),
-        None => None,
-    }
-}
-
 fn check_answers(rt: &impl Abort, answers: &[Result<(), Refusal>]) {
     for (answer, expected) in answers.iter().zip(ANSWERS.iter()) {
         assert_eq!(rt; *answer, *expected);
@@ -100,8 +94,8 @@ fn check_cells<G: Grammar>(
     fresh.append(grammar, &UnitWeighing::new(), LEFT[2])?;
     for (begin, end) in SPANS {
         assert_eq!(rt;
-            value(chart.cell(begin, end, 0)),
-            value(fresh.cell(begin, end, 0))
+            chart.cell(begin, end, 0),
+            fresh.cell(begin, end, 0)
         );
     }
     Ok(())
@@ -109,7 +103,7 @@ fn check_cells<G: Grammar>(
 
 #[test]
 fn calls_with_refusals(rt: HostRuntime) -> Result<(), Fail> {
-    let mut rows = [BLANK; 3];
+    let mut rows = [Rule::BLANK; 3];
     let grammar = known_rules(&mut rows);
     let mut slots = [Count::one(); 7];
     let mut chart = Chart::new(&mut slots, &grammar);
@@ -145,7 +139,7 @@ fn calls_with_refusals(rt: HostRuntime) -> Result<(), Fail> {
 // A token from before a clear is spent, and answered by the mark alone.
 #[test]
 fn token_after_clear(rt: HostRuntime) -> Result<(), Fail> {
-    let mut rows = [BLANK; 3];
+    let mut rows = [Rule::BLANK; 3];
     let grammar = known_rules(&mut rows);
     let mut slots = [Count::zero(); 3];
     let mut chart = Chart::new(&mut slots, &grammar);

@@ -1,4 +1,5 @@
 // Each refusal, the sizes at which it begins, and a stack of all four layers.
+use crate::rules::known_readings;
 use automata::automaton::Automaton;
 use automata::counting::CountingAutomaton;
 use automata::table::TableAutomaton;
@@ -44,10 +45,10 @@ fn table_numbers(rt: HostRuntime) {
 fn table_steps(rt: HostRuntime) {
     let (mut automaton, _) = TableAutomaton::new(2, 2, 0, 2);
     let rows = [
-        (2, 0, 0, OUT),
-        (0, 2, 0, OUT),
-        (0, 0, 2, OUT),
-        (0, 1, 1, None),
+        (2, 0, 0, Err(Refusal::NumberOutOfRange)),
+        (0, 2, 0, Err(Refusal::NumberOutOfRange)),
+        (0, 0, 2, Err(Refusal::NumberOutOfRange)),
+        (0, 1, 1, Ok(())),
     ];
     for (from, code, to, want) in rows {
         assert_eq!(rt; automaton.write(from, code, to), want);
@@ -80,7 +81,12 @@ fn readings_numbers(rt: HostRuntime) {
 #[test]
 fn readings_written(rt: HostRuntime) {
     let (mut readings, _) = Readings::new(3);
-    for (recorder, code, want) in [(3, 0, OUT), (0, 32, OUT), (2, 31, None)] {
+    let rows = [
+        (3, 0, Err(Refusal::NumberOutOfRange)),
+        (0, 32, Err(Refusal::NumberOutOfRange)),
+        (2, 31, Ok(())),
+    ];
+    for (recorder, code, want) in rows {
         assert_eq!(rt; readings.read_as(recorder, code), want);
     }
 }
@@ -89,9 +95,9 @@ fn readings_written(rt: HostRuntime) {
 fn seventeenth_ban(rt: HostRuntime) {
     let mut bans = Bans::none();
     for number in 0..16 {
-        assert_eq!(rt; bans.add(number), None);
+        assert_eq!(rt; bans.add(number), Ok(()));
     }
-    assert_eq!(rt; bans.add(0), Some(Refusal::TooManyBans));
+    assert_eq!(rt; bans.add(0), Err(Refusal::TooManyBans));
 }
 
 // The largest intersections that are laid, the smallest that are not, and which refusal comes first.
@@ -138,26 +144,6 @@ fn is_blank<G: Grammar>(grammar: &G) -> bool {
     empty && !grammar.is_start(0) && grammar.rule(0).is_none()
 }
 
-// A rule's left side, expansion (a code stands beside 99), cost and bottom number; zeros where there is none.
-fn shape(rule: Option<Rule>) -> (u32, u32, u32, u16, u32) {
-    match rule {
-        Some(rule) => match rule.expansion {
-            Expansion::Pair { left, right } => (rule.lhs, left, right, rule.cost, rule.bottom),
-            Expansion::Leaf { code } => (rule.lhs, u32::from(code), 99, rule.cost, rule.bottom),
-        },
-        None => (0, 0, 0, 0, 0),
-    }
-}
-
-// Recorder codes 0, 1, 2 read as 0, 0, 1.
-fn three_readings() -> Readings {
-    let (mut readings, _) = Readings::new(3);
-    for (recorder, code) in [(0, 0), (1, 0), (2, 1)] {
-        let _ = readings.read_as(recorder, code);
-    }
-    readings
-}
-
 // Rules 0: S to S S, 1: S to 0, 2: S to 1, with rule 1 banned, one code 1 counted, codes read as above, and all reversed.
 #[test]
 fn stack_of_four(rt: HostRuntime) {
@@ -165,7 +151,7 @@ fn stack_of_four(rt: HostRuntime) {
     let _ = bans.add(1);
     let (automaton, _) = CountingAutomaton::new(2, 1, 1);
     let (crossed, _) = Intersection::lay(Ban::lay(Wide::new(1, 3), bans), automaton);
-    let (renamed, _) = Renaming::lay(crossed, three_readings());
+    let (renamed, _) = Renaming::lay(crossed, known_readings());
     let stack = Reversal::lay(renamed);
     assert_eq!(rt;
         (stack.nonterminals(), stack.codes(), stack.bound()),
@@ -175,14 +161,26 @@ fn stack_of_four(rt: HostRuntime) {
         (stack.is_start(0), stack.is_start(1), stack.is_start(3)),
         (false, true, false)
     );
+    let pair = Rule {
+        lhs: 1,
+        expansion: Expansion::Pair { left: 3, right: 1 },
+        cost: 1,
+        bottom: 0,
+    };
+    let leaf = Rule {
+        lhs: 1,
+        expansion: Expansion::Leaf { code: 2 },
+        cost: 3,
+        bottom: 2,
+    };
     let rows = [
-        (9, (1, 3, 1, 1, 0)),
-        (10, (0, 0, 0, 0, 0)),
-        (24, (0, 0, 0, 0, 0)),
-        (53, (1, 2, 99, 3, 2)),
-        (72, (0, 0, 0, 0, 0)),
+        (9, Some(pair)),
+        (10, None),
+        (24, None),
+        (53, Some(leaf)),
+        (72, None),
     ];
     for (number, want) in rows {
-        assert_eq!(rt; shape(stack.rule(number)), want);
+        assert_eq!(rt; stack.rule(number), want);
     }
 }

@@ -1,5 +1,5 @@
 // A tree with ties in its start, its rules and its cuts, and trees that are refused.
-use crate::rules::{BLANK, known_rules};
+use crate::rules::known_rules;
 use crate::starts::EveryStart;
 use chart::chart::Chart;
 use grammar::grammar::Grammar;
@@ -131,21 +131,19 @@ fn refusal_of<G: Grammar, H: Grammar>(
 
 #[test]
 fn ties(rt: HostRuntime) -> Result<(), Fail> {
-    let mut rows = [BLANK; 6];
+    let mut rows = [Rule::BLANK; 6];
     let grammar = EveryStart {
         below: tied_rules(&mut rows),
     };
     let mut records = [UNTOUCHED; 6];
     assert_eq!(rt; tree_of(&grammar, &grammar, 0b01, 3, &mut records)?, 5);
-    for i in 0..6 {
-        assert_eq!(rt; records[i], TREE[i]);
-    }
+    assert_eq!(rt; records, TREE);
     Ok(())
 }
 
 #[test]
 fn refusals(rt: HostRuntime) {
-    let mut rows = [BLANK; 6];
+    let mut rows = [Rule::BLANK; 6];
     let grammar = EveryStart {
         below: tied_rules(&mut rows),
     };
@@ -155,7 +153,7 @@ fn refusals(rt: HostRuntime) {
             case.number
         );
     }
-    let mut other_rows = [BLANK; 3];
+    let mut other_rows = [Rule::BLANK; 3];
     let other = known_rules(&mut other_rows);
     assert_eq!(rt; refusal_of(&rt, &grammar, &other, 0b10, 3), 12);
 }

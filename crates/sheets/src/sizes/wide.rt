@@ -18,8 +18,8 @@ pub struct Wide {
 impl Wide {
     pub(crate) fn new(nonterminals: u32, bound: u32) -> Wide {
         Wide {
-            nonterminals: nonterminals.max(1).min(4096),
-            bound: bound.max(3).min(16777216),
+            nonterminals: nonterminals.clamp(1, 4096),
+            bound: bound.clamp(3, 16777216),
         }
     }
 }

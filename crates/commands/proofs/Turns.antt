@@ -1,9 +1,8 @@
 -- One command more is read. Assumes nothing.
 use Rattle.std.proofs.Common.{◌≡◌, ℕ, ◌<◌, ◌≤◌, true, false, ◌⊎◌, List, [], ◌∷◌, ◌++◌, length, drop, Some, None, Ok, Err, Option, Result, sym, refl, ap, ◌∙◌, subst, inl, inr, append_assoc, append-nil, arith, length-append, length-drop, drop_of_length-le, MatchOption}
 use lib.Seq.{drop-append_seam}
-use Rattle.std.proofs.lemmas.Bool.{both_ways, true≢false, not-true, and_parts, eqb-true, eqb-false}
+use Rattle.std.proofs.lemmas.Bool.{both_ways, true≢false, not-true, and_parts}
 use Rattle.commands.specs.declared.command.Command.{Command}
-use Rattle.commands.specs.declared.command.Command.TheVariants.{Grammar, Pair, Leaf, Ban, Automaton, Step, Renaming, Reading, Entry, End}
 use Rattle.commands.specs.declared.fault.Fault.{Fault}
 use Rattle.commands.specs.declared.reader.Reader.{Reader}
 use Rattle.commands.specs.declared.stage.Stage.{Stage}
@@ -12,28 +11,16 @@ use Rattle.commands.specs.Format.{encode, encodes, Begins}
 use Rattle.commands.specs.Order.{some, begun, going, allowed}
 use Rattle.commands.specs.Jobs.{Ends, Job, Breaks, FaultAt}
 use Rattle.commands.specs.Stages.{next_stage, Stands}
-use Rattle.commands.specs.Readers.{left, ends_at, Took, Finished, Halted, Stopped, Steps, HasRead, Reads}
+use Rattle.commands.specs.Readers.{left, Took, Finished, Halted, Stopped, Steps, HasRead, Reads}
 use Rattle.commands.proofs.Stages.{goes_right, came}
 use Rattle.commands.proofs.Unique.{encodes_push, ordered_push}
 
 pub encode_some : (c : Command) → 0 < length (encode c)
-encode_some (Grammar n t start) = omega arith
-encode_some (Pair lhs left right cost) = omega arith
-encode_some (Leaf lhs code cost) = omega arith
-encode_some (Ban number) = omega arith
-encode_some (Automaton q k start accept) = omega arith
-encode_some (Step from code to) = omega arith
-encode_some (Renaming count) = omega arith
-encode_some (Reading recorder code) = omega arith
-encode_some (Entry bits) = omega arith
-encode_some End = omega arith
+encode_some c = grind arith
 
 pub encodes_long : (cs : List Command) → length cs ≤ length (encodes cs)
 encodes_long [] = omega arith
 encodes_long (c ∷ cs) = omega (arith, encode_some c, encodes_long cs, length-append (encode c) (encodes cs))
-
-pub encodes_grow : (cs : List Command) (c : Command) → length (encodes cs) < length (encodes (cs ++ (c ∷ [])))
-encodes_grow cs c = omega (arith, encode_some c, ap length (encodes_push cs c) ∙ length-append (encodes cs) (encode c))
 
 -- after the end the stage is the last
 pub ended_stage : (before : List Command) (s : Stage) → Stands before s → Ends before → s ≡ Ended
@@ -108,17 +95,3 @@ module _ (r : Reader) (before : List Command) (h : HasRead r before) where
   reads s (Ok (Some c)) t = took s c t
   reads s (Ok None) t = finished s t
   reads s (Err f) t = (t.refusal, stopped s f t)
-
--- a job that is not finished at the end stage has more bytes
-pub more : (s : Stage) (place long : ℕ) → ends_at s place long ≡ false → place ≤ long → s ≡ Ended → place < long
-more Declaring place long e h p = let z : ◌≡◌ {A = ℕ} 0 1 = cc in absurd (omega arith)
-more (Describing a r) place long e h p = let z : ◌≡◌ {A = ℕ} 0 1 = cc in absurd (omega arith)
-more Entries place long e h p = let z : ◌≡◌ {A = ℕ} 0 1 = cc in absurd (omega arith)
-more Ended place long e h p = let ne : place ≡ long → ⊥ = eqb-false place long e in omega arith
-
--- and one that is finished has come to it, and has none
-pub none_left : (s : Stage) (place long : ℕ) → ends_at s place long ≡ true → (s ≡ Ended) × (place ≡ long)
-none_left Declaring place long e = absurd (true≢false (sym e))
-none_left (Describing a r) place long e = absurd (true≢false (sym e))
-none_left Entries place long e = absurd (true≢false (sym e))
-none_left Ended place long e = (refl, eqb-true place long e)

@@ -3,3 +3,4 @@ pub mod Order
 pub mod Jobs
 pub mod Stages
 pub mod Readers
+pub mod Faults

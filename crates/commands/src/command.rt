@@ -1,8 +1,8 @@
 // The commands of a job. Each is one byte and its operands, which are taken from the job by a slice pattern.
-ghost use Rattle.std.specs.Prelude.{◌≡◌, [], ◌∷◌, MatchOption};
-ghost use Rattle.commands.specs.Format.{two, four, Begins, NoCommand};
+ghost use Rattle.std.specs.Prelude.{MatchOption};
+ghost use Rattle.commands.specs.Format.{Begins, NoCommand};
 
-#[derive(Clone, Copy)]
+#[derive(Clone, Copy, PartialEq, Eq, Debug)]
 pub enum Command {
     // 01: a table grammar
     Grammar {
@@ -77,7 +77,7 @@ impl Command {
                         lhs: *lhs,
                         left: *left,
                         right: *right,
-                        cost: two_bytes(*high, *low),
+                        cost: u16::from_be_bytes([*high, *low]),
                     },
                     rest,
                 ))
@@ -87,14 +87,14 @@ impl Command {
                     Command::Leaf {
                         lhs: *lhs,
                         code: *code,
-                        cost: two_bytes(*high, *low),
+                        cost: u16::from_be_bytes([*high, *low]),
                     },
                     rest,
                 ))
             }
             [0x04, high, low, rest @ ..] => Some((
                 Command::Ban {
-                    number: two_bytes(*high, *low),
+                    number: u16::from_be_bytes([*high, *low]),
                 },
                 rest,
             )),
@@ -127,7 +127,7 @@ impl Command {
             )),
             [0x0A, a, b, c, d, rest @ ..] => Some((
                 Command::Entry {
-                    codes: four_bytes(*a, *b, *c, *d),
+                    codes: u32::from_be_bytes([*a, *b, *c, *d]),
                 },
                 rest,
             )),
@@ -135,18 +135,4 @@ impl Command {
             _ => None,
         }
     }
-}
-
-// The number in two bytes, the high one first.
-fn two_bytes(high: u8, low: u8) -> u16
-    ensures { two result ≡ high ∷ low ∷ [] }
-{
-    u16::from_be_bytes([high, low])
-}
-
-// The number in four bytes, the high one first.
-fn four_bytes(a: u8, b: u8, c: u8, d: u8) -> u32
-    ensures { four result ≡ a ∷ b ∷ c ∷ d ∷ [] }
-{
-    u32::from_be_bytes([a, b, c, d])
 }

@@ -6,13 +6,15 @@ use crate::fault::Fault;
 use crate::reader::Reader;
 
 // How many commands a job has, or its fault.
+#[tactic(auto, using(crate::proofs::Outcomes::one_outcome, crate::proofs::Turns::encodes_long, std::proofs::lemmas::List::length_push))]
 pub fn count_commands(input: &[u8]) -> Result<usize, Fault>
     ensures which { Counted input.now result }
     ensures one { OneOutcome input.now }
 {
     let mut reader = Reader::new(input);
     let mut count: usize = 0;
-    while let Some(_) = reader.next()? {
+    // a loop, and no chain: the reader is no iterator, since after a fault it answers the same fault at each call
+    while reader.next()?.is_some() {
         count += 1;
     }
     Ok(count)

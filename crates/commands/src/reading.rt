@@ -67,9 +67,6 @@ impl<'a> Reader<'a> {
     fn finished(&self) -> bool
         ensures { result ≡ is_finished self.now }
     {
-        match self.stage {
-            Stage::Ended => self.place == self.input.len(),
-            _ => false,
-        }
+        self.stage == Stage::Ended && self.place == self.input.len()
     }
 }

@@ -4,7 +4,7 @@ ghost use Rattle.commands.specs.Stages.{next_stage};
 
 use crate::command::Command;
 
-#[derive(Clone, Copy)]
+#[derive(Clone, Copy, PartialEq, Eq, Debug)]
 pub enum Stage {
     // nothing has come
     Declaring,

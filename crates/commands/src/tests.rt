@@ -76,26 +76,22 @@ fn breaks(rt: HostRuntime) {
 #[test]
 fn operands(rt: HostRuntime) -> Result<(), Fail> {
     let mut reader = Reader::new(&[0x01, 2, 3, 1, 0x02, 1, 2, 3, 4, 5]);
-    assert!(rt;
-        matches!(
-            reader.next()?,
-            Some(Command::Grammar {
-                nonterminals: 2,
-                codes: 3,
-                start: 1
-            })
-        )
+    assert_eq!(rt;
+        reader.next()?,
+        Some(Command::Grammar {
+            nonterminals: 2,
+            codes: 3,
+            start: 1,
+        })
     );
-    assert!(rt;
-        matches!(
-            reader.next()?,
-            Some(Command::Pair {
-                lhs: 1,
-                left: 2,
-                right: 3,
-                cost: 1029
-            })
-        )
+    assert_eq!(rt;
+        reader.next()?,
+        Some(Command::Pair {
+            lhs: 1,
+            left: 2,
+            right: 3,
+            cost: 1029,
+        })
     );
     Ok(())
 }

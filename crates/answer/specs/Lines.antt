@@ -1,18 +1,16 @@
 -- The lines of an answer. Assumes nothing.
-use Rattle.std.specs.Prelude.{ℕ, cond, List, [], ◌∷◌, ◌++◌, take, codes, decimal, ◌==◌}
+use Rattle.std.specs.Prelude.{ℕ, cond, List, [], ◌∷◌, ◌++◌, take, Ok, Err, Result, codes, decimal, ◌==◌}
 use Rattle.semiring.specs.declared.cost.Cost.{Cost}
 use Rattle.semiring.specs.Costs.{none}
-use Rattle.grammar.specs.Refusals.{number}
 use Rattle.commands.specs.declared.fault.Fault.{Fault}
+use Rattle.commands.specs.Faults.{fault_text}
 use Rattle.tree.specs.declared.record.Record.{Record}
 use Rattle.answer.specs.declared.report.Totals.{Totals}
 use Rattle.answer.specs.declared.report.Report.{Report}
-use Rattle.answer.specs.declared.report.Answer.{Answer}
-use Rattle.answer.specs.declared.report.Answer.TheVariants.{Faulted, Read}
 
 -- the number of the refusal, and its place
 abbrev pub fault_line : Fault → List ℕ
-fault_line f = codes "fault " ++ (decimal (number f.refusal) ++ (codes " " ++ (decimal f.place ++ codes "\n")))
+fault_line f = fault_text f ++ codes "\n"
 
 -- a node: the span that it covers, and the number of its rule in the table
 abbrev pub node_line : Record → List ℕ
@@ -34,7 +32,7 @@ node_lines (r ∷ rs) = node_line r ++ node_lines rs
 abbrev pub report_lines : Report → List ℕ
 report_lines r = totals_lines r.totals ++ node_lines (take r.nodes r.records)
 
--- the text of an answer
-abbrev pub answer_text : Answer → List ℕ
-answer_text (Faulted f) = fault_line f
-answer_text (Read r) = report_lines r
+-- the text of an answer: the line of a fault, or the lines of a report
+abbrev pub answer_text : Result Report Fault → List ℕ
+answer_text (Ok r) = report_lines r
+answer_text (Err f) = fault_line f

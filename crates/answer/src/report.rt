@@ -1,14 +1,13 @@
-// What a job comes to: its first fault, or the totals over its entries and the nodes of a cheapest derivation.
+// What the entries of a job come to: the totals over them and the nodes of a cheapest derivation.
 ghost use Rattle.std.specs.Prelude.{◌≡◌, ◌≤◌, length, take};
 
-use commands::fault::Fault;
 use semiring::cost::Cost;
 use semiring::count::Count;
 use semiring::yes_no::YesNo;
 use tree::record::Record;
 
 // Whether the entries have a derivation, how many, and the cost of a cheapest one.
-#[derive(Clone, Copy)]
+#[derive(Clone, Copy, PartialEq, Eq, Debug)]
 pub struct Totals {
     pub read: YesNo,
     pub count: Count,
@@ -16,7 +15,7 @@ pub struct Totals {
 }
 
 // What the entries come to: the totals, and the nodes of a cheapest derivation, which are the first of the records.
-#[derive(Clone, Copy)]
+#[derive(Clone, Copy, PartialEq, Eq, Debug)]
 pub struct Report {
     pub totals: Totals,
     pub nodes: usize,
@@ -25,14 +24,8 @@ pub struct Report {
     ghost few: { nodes ≤ 127 },
 }
 
-// One node of a derivation: the span that it covers, and the number of its rule in the table.
-#[derive(Clone, Copy)]
-pub struct Node {
-    pub record: Record,
-}
-
-// The nodes of a derivation, root first and left before right.
-#[derive(Clone, Copy)]
+// The nodes of a derivation, root first and left before right: a type of its own, since only this crate knows how the records of another are written.
+#[derive(Clone, Copy, PartialEq, Eq, Debug)]
 pub struct Nodes<'a> {
     pub records: &'a [Record],
 }
@@ -46,11 +39,4 @@ impl Report {
             records: &self.records[0..self.nodes],
         }
     }
-}
-
-// What is answered: the first fault of the job, or what its entries come to.
-#[derive(Clone, Copy)]
-pub enum Answer {
-    Faulted(Fault),
-    Read(Report),
 }

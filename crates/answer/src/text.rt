@@ -1,9 +1,12 @@
 // The text of an answer, line by line; each line ends in a line feed.
-ghost use Rattle.std.specs.Prelude.{Some};
-ghost use Rattle.answer.specs.Lines.{totals_lines, node_line, node_lines, report_lines, answer_text};
+ghost use Rattle.std.specs.Prelude.{◌≡◌, Some, IfOk, string_bytes};
+ghost use Rattle.answer.specs.Lines.{totals_lines, node_lines, report_lines, answer_text};
 
-use crate::report::{Answer, Node, Nodes, Report, Totals};
+use crate::report::{Nodes, Report, Totals};
+use commands::fault::Fault;
+use std::alloc::{AllocError, Global};
 use std::fmt;
+use tree::record::Record;
 
 // Three lines: whether there is a derivation, how many, and the cost of a cheapest.
 impl fmt::Display for Totals {
@@ -13,7 +16,7 @@ impl fmt::Display for Totals {
         let read = if self.read.value { "yes" } else { "no" };
         let count = self.count.value;
         let cost = self.cost.value;
-        if cost == u32::MAX {
+        if self.cost.is_none() {
             write!(f, "read {read}\ncount {count}\ncost none\n")
         } else {
             write!(f, "read {read}\ncount {count}\ncost {cost}\n")
@@ -21,26 +24,13 @@ impl fmt::Display for Totals {
     }
 }
 
-// One line: the span that the node covers, and the number of its rule in the table.
-impl fmt::Display for Node {
-    ghost output = { λ n. Some (node_line n.record) };
-
-    fn fmt<W: fmt::Write>(&self, f: &mut fmt::Formatter<W>) -> fmt::Result {
-        let begin = self.record.begin;
-        let end = self.record.end;
-        let bottom = self.record.bottom;
-        write!(f, "node {begin} {end} {bottom}\n")
-    }
-}
-
-// A line for each node.
+// A line for each node: the span that it covers, and the number of its rule in the table.
 impl fmt::Display for Nodes<'_> {
     ghost output = { λ n. Some (node_lines n.records.now) };
 
     fn fmt<W: fmt::Write>(&self, f: &mut fmt::Formatter<W>) -> fmt::Result {
-        for record in self.records {
-            let node = Node { record: *record };
-            write!(f, "{node}")?;
+        for Record { begin, end, bottom } in self.records {
+            write!(f, "node {begin} {end} {bottom}\n")?;
         }
         Ok(())
     }
@@ -57,18 +47,12 @@ impl fmt::Display for Report {
     }
 }
 
-// One line for a fault: the number of the refusal, and its place; or the lines of the report.
-impl fmt::Display for Answer {
-    ghost output = { λ a. Some (answer_text a) };
-
-    fn fmt<W: fmt::Write>(&self, f: &mut fmt::Formatter<W>) -> fmt::Result {
-        match self {
-            Answer::Faulted(fault) => {
-                let number = fault.refusal.number();
-                let place = fault.place;
-                write!(f, "fault {number} {place}\n")
-            }
-            Answer::Read(report) => write!(f, "{report}"),
-        }
+// The text of an answer: the line of a fault, or the lines of a report.
+pub fn text(heap: Global, answer: &Result<Report, Fault>) -> Result<String, AllocError>
+    ensures { IfOk result (λ s. string_bytes s ≡ answer_text answer.now) }
+{
+    match answer {
+        Ok(report) => format!(in heap; "{report}"),
+        Err(fault) => format!(in heap; "{fault}\n"),
     }
 }

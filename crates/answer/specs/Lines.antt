@@ -1,5 +1,5 @@
 -- The lines of an answer. Assumes nothing.
-use Rattle.std.specs.Prelude.{ℕ, cond, List, [], ◌∷◌, ◌++◌, take, Ok, Err, Result, codes, decimal, ◌==◌}
+use Rattle.std.specs.Prelude.{ℕ, cond, List, [], ◌∷◌, ◌++◌, Ok, Err, Result, codes, decimal, ◌==◌}
 use Rattle.semiring.specs.declared.cost.Cost.{Cost}
 use Rattle.semiring.specs.Costs.{none}
 use Rattle.commands.specs.declared.fault.Fault.{Fault}
@@ -30,7 +30,7 @@ node_lines [] = []
 node_lines (r ∷ rs) = node_line r ++ node_lines rs
 
 abbrev pub report_lines : Report → List ℕ
-report_lines r = totals_lines r.totals ++ node_lines (take r.nodes r.records)
+report_lines r = totals_lines r.totals ++ node_lines r.nodes.items
 
 -- the text of an answer: the line of a fault, or the lines of a report
 abbrev pub answer_text : Result Report Fault → List ℕ

@@ -1,6 +1,7 @@
 // What the entries of a job come to: the totals over them and the nodes of a cheapest derivation.
-ghost use Rattle.std.specs.Prelude.{◌≡◌, ◌≤◌, length, take};
+ghost use Rattle.std.specs.Prelude.{◌≡◌};
 
+use lists::list::List;
 use semiring::cost::Cost;
 use semiring::count::Count;
 use semiring::yes_no::YesNo;
@@ -14,14 +15,11 @@ pub struct Totals {
     pub cost: Cost,
 }
 
-// What the entries come to: the totals, and the nodes of a cheapest derivation, which are the first of the records.
-#[derive(Clone, Copy, PartialEq, Eq, Debug)]
+// What the entries come to: the totals, and the nodes of a cheapest derivation; none where there is no derivation.
+#[derive(Clone, Copy)]
 pub struct Report {
     pub totals: Totals,
-    pub nodes: usize,
-    pub records: [Record; 127],
-    ghost long: { length records ≡ 127 },
-    ghost few: { nodes ≤ 127 },
+    pub nodes: List<Record, 127>,
 }
 
 // The nodes of a derivation, root first and left before right: a type of its own, since only this crate knows how the records of another are written.
@@ -33,10 +31,10 @@ pub struct Nodes<'a> {
 impl Report {
     // The nodes of a cheapest derivation; none where there is no derivation.
     pub fn tree(&self) -> Nodes<'_>
-        ensures { result.records.now ≡ take self.now.nodes self.now.records }
+        ensures { result.records.now ≡ self.now.nodes.items }
     {
         Nodes {
-            records: &self.records[0..self.nodes],
+            records: self.nodes.as_slice(),
         }
     }
 }

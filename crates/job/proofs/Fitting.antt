@@ -1,11 +1,11 @@
 -- Every entry of a job that is taken is accepted by a chart for the job's grammar. Assumes nothing.
-use Rattle.std.proofs.Common.{◌≡◌, ℕ, ◌+◌, true, false, cond, not, ◌||◌, List, [], ◌∷◌, ◌++◌, map, length, None, Ok, Err, sym, refl, ap, ◌∙◌, subst, append_assoc, append-nil, add-zero, zero-add, arith, eq-eqb}
-use Rattle.std.proofs.lemmas.Bool.{true≢false, not-true, and_parts, or_parts}
+use Rattle.std.proofs.Common.{◌≡◌, ℕ, ◌+◌, ◌≤◌, true, false, cond, not, ◌||◌, List, [], ◌∷◌, ◌++◌, map, length, None, Ok, Err, sym, refl, ap, ◌∙◌, subst, append_assoc, append-nil, add-zero, zero-add, arith, eq-eqb, Some, ◌*◌, leb, ltb, ltb-true}
+use Rattle.std.proofs.lemmas.Bool.{true≢false, not-false, not-true, and_parts, or_parts}
 use Rattle.std.proofs.lemmas.List.{length_push}
 use Rattle.grammar.specs.declared.refusal.Refusal.TheVariants.{BadEntry, TrialOpen, NoRoom, OtherGrammar}
 use Rattle.grammar.specs.Grammars.{Meaning}
 use Rattle.entries.specs.declared.call.Call.TheVariants.{Append}
-use Rattle.entries.specs.Spans.{full}
+use Rattle.entries.specs.Spans.{triangle, full}
 use Rattle.entries.specs.Model.{State, terms, verdict, entry_tests, improper, after}
 use Rattle.runs.specs.Runs.{run}
 use Rattle.commands.specs.declared.command.Command.{Command}
@@ -13,6 +13,7 @@ use Rattle.commands.specs.declared.command.Command.TheVariants.{Grammar, Pair, L
 use Rattle.commands.specs.Order.{is, some, going, describing, allowed, Ordered}
 use Rattle.job.specs.Appending.{appended}
 use Rattle.job.specs.Describing.{Described, nothing, entry_refusal, nonterminals_of, codes_of, refusal, taken, describe, Passes}
+use Rattle.job.specs.Outcomes.{Takes}
 use Rattle.job.specs.Reports.{accepted}
 use Rattle.job.proofs.Sizes.{or_else_none, if_none}
 
@@ -103,3 +104,17 @@ fits_all before (c ∷ cs) d o p q f =
 
 pub fits : (cs : List Command) → Ordered [] cs → Passes nothing cs → Fits (describe nothing cs)
 fits cs o p = fits_all [] cs nothing o p (λ e. refl) tt
+
+-- there are at most 64 of them
+few : (n t count : ℕ) (es : List ℕ) → count ≤ 64 → Fitting n t count es → count + length es ≤ 64
+few n t count [] h f = omega arith
+few n t count (b ∷ bs) h f =
+    let fits : full count n 4096 ≡ false = if_none (full count n 4096) NoRoom (or_else_none (cond (improper b t) (Some BadEntry) None) _ f.0).1 in
+    let below = and_parts (ltb count 64) (leb (triangle (count + 2) * n) 4096) (not-false _ fits) in
+    let more : count + 1 ≤ 64 = omega (arith, ltb-true count 64 below.0) in
+    omega (arith, few n t (count + 1) bs more f.1)
+
+pub few_entries : (input : List ℕ) (d : Described) → Takes input d → length d.entries ≤ 64
+few_entries input d t =
+    let f : Fits d = subst Fits (sym t.describes) (fits t.commands t.job.ordered t.passes) in
+    omega (arith, few (nonterminals_of d) (codes_of d) 0 d.entries (omega arith) f)

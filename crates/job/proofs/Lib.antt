@@ -1,4 +1,3 @@
-pub mod Pushes
 pub mod Drawing
 pub mod Recognising
 pub mod Turns

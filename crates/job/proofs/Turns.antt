@@ -1,7 +1,6 @@
 -- One command more is read and taken, or the job is faulted. Assumes nothing.
 use Rattle.std.proofs.Common.{◌≡◌, ℕ, ◌<◌, ◌≤◌, true, not, ◌⊎◌, List, [], ◌∷◌, ◌++◌, length, Some, None, sym, refl, ap, ◌∙◌, inl, inr, append_assoc}
 use Rattle.std.proofs.lemmas.Bool.{true≢false}
-use Rattle.grammar.specs.declared.refusal.Refusal.{Refusal}
 use Rattle.commands.specs.declared.command.Command.{Command}
 use Rattle.commands.specs.declared.command.Command.TheVariants.{Grammar, Pair, Leaf, Ban, Automaton, Step, Renaming, Reading, Entry, End}
 use Rattle.commands.specs.declared.fault.Fault.{Fault}
@@ -65,8 +64,8 @@ module _ (r : Reader) (d : Described) (l : Loading r d) where
   }
 
   -- a command was refused
-  pub refused : (s : Reader) (c : Command) (why : Refusal) → s.input ≡ r.input → length (input_of r) ≤ 4096 → HasRead s (l.before ++ (c ∷ [])) → refusal d c ≡ Some why → FirstFault (input_of r) why r.place
-  refused s c why same short read why-not = inr (inr (record {
+  pub refused : (s : Reader) (c : Command) (f : Fault) → s.input ≡ r.input → length (input_of r) ≤ 4096 → HasRead s (l.before ++ (c ∷ [])) → refusal d c ≡ Some f.refusal → f.place ≡ r.place → FirstFault (input_of r) f.refusal f.place
+  refused s c f same short read why here = inr (inr (record {
     short = short;
     before = l.before;
     command = c;
@@ -74,6 +73,6 @@ module _ (r : Reader) (d : Described) (l : Loading r d) where
     split = ap (λ x. x.now) (sym same) ∙ read.split ∙ ap (λ x. x ++ left s) (encodes_push l.before c) ∙ append_assoc (encodes l.before) (encode c) (left s);
     ordered = read.ordered;
     passes = l.passes;
-    refused = ap (λ x. refusal x c) (sym l.describes) ∙ why-not;
-    here = l.read.place;
+    refused = ap (λ x. refusal x c) (sym l.describes) ∙ why;
+    here = here ∙ l.read.place;
   }))

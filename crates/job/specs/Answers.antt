@@ -1,12 +1,11 @@
 -- What is answered to an input. Assumes nothing.
-use Rattle.std.specs.Prelude.{◌≡◌, ℕ, List, Some, None, Option}
+use Rattle.std.specs.Prelude.{◌≡◌, ℕ, List, Some, None, Ok, Err, Option, Result}
 use Rattle.grammar.specs.Grammars.{Meaning}
 use Rattle.table.specs.Drafts.{sealed}
 use Rattle.layers.specs.Ban.{ban}
 use Rattle.layers.specs.Intersection.{intersection, intersection_refused}
 use Rattle.layers.specs.Renaming.{Recorder, renaming_refused}
-use Rattle.answer.specs.declared.report.Answer.{Answer}
-use Rattle.answer.specs.declared.report.Answer.TheVariants.{Faulted, Read}
+use Rattle.commands.specs.declared.fault.Fault.{Fault}
 use Rattle.answer.specs.declared.report.Report.{Report}
 use Rattle.job.specs.Describing.{Described, stack}
 use Rattle.job.specs.Outcomes.{Takes, FirstFault}
@@ -32,13 +31,13 @@ pub record Reads (input : List ℕ) (x : Report) : Type 0 where
   pub comes : Comes (stack describes) describes.entries x
   pub ways : InWays describes x
 
--- the answer is the first fault of the input, or what its entries come to
-abbrev pub Answers : List ℕ → Answer → Type 0
-Answers input (Faulted f) = FirstFault input f.refusal f.place
-Answers input (Read x) = Reads input x
+-- the answer is what the entries of the input come to, or its first fault
+abbrev pub Answers : List ℕ → Result Report Fault → Type 0
+Answers input (Ok x) = Reads input x
+Answers input (Err f) = FirstFault input f.refusal f.place
 
 -- the text is that of an answer to the input
 pub record Says (input text : List ℕ) : Type 0 where
-  pub answer : Answer
+  pub answer : Result Report Fault
   pub answers : Answers input answer
   pub is : text ≡ answer_text answer

@@ -1,7 +1,8 @@
 -- What the commands of a job describe: why each is refused, and what one that is accepted adds. Assumes nothing.
-use Rattle.std.specs.Prelude.{◌≡◌, ℕ, ◌*◌, cond, List, [], ◌∷◌, ◌++◌, length, Some, None, Ok, Option, nat_lt}
+use Rattle.std.specs.Prelude.{◌≡◌, ℕ, ◌*◌, cond, List, [], ◌∷◌, ◌++◌, length, Some, None, Ok, Option, Result, nat_lt}
 use Rattle.grammar.specs.declared.refusal.Refusal.{Refusal}
 use Rattle.grammar.specs.declared.refusal.Refusal.TheVariants.{FewerCodes, BadEntry, NoRoom}
+use Rattle.grammar.specs.Refusals.{accepted_unless}
 use Rattle.grammar.specs.declared.rule.Expansion.{Expansion}
 use Rattle.grammar.specs.declared.rule.Expansion.TheVariants.{Pair as IntoPair, Leaf as IntoLeaf}
 use Rattle.grammar.specs.Grammars.{Meaning}
@@ -130,6 +131,11 @@ taken d (Renaming count) = with_recorder d (Some (readings_made count))
 taken d (Reading b a) = with_recorder d (with_reading b a d.recorder)
 taken d (Entry bits) = with_entries d (d.entries ++ (bits ∷ []))
 taken d End = d
+
+-- taking a command answers that it is accepted, or why it is refused; where it is accepted, d becomes what it makes of d
+pub record Taking (d : Described) (c : Command) (answer : Result (Unit {0}) Refusal) (e : Described) : Type 0 where
+  pub refusal : answer ≡ accepted_unless (refusal d c)
+  pub after : answer ≡ Ok tt → e ≡ taken d c
 
 -- what commands make of the description, one after another
 abbrev pub describe : Described → List Command → Described

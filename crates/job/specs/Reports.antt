@@ -1,10 +1,9 @@
 -- What entries come to by a grammar. Assumes nothing.
-use Rattle.std.specs.Prelude.{◌≡◌, ℕ, ◌-◌, ◌*◌, ◌⊎◌, List, length, take, Ok, Err, Result}
+use Rattle.std.specs.Prelude.{◌≡◌, ℕ, ◌-◌, ◌*◌, ◌⊎◌, List, length}
 use Rattle.semiring.specs.Semirings.{Operations}
 use Rattle.semiring.specs.YesNos.{yes_no}
 use Rattle.semiring.specs.Counts.{count}
 use Rattle.semiring.specs.Costs.{cost}
-use Rattle.grammar.specs.declared.refusal.Refusal.{Refusal}
 use Rattle.grammar.specs.Grammars.{Meaning}
 use Rattle.grammar.specs.Derivations.{EntriesFromStarts}
 use Rattle.grammar.specs.Totals.{TotalOf, weight_of, by}
@@ -21,11 +20,6 @@ use Rattle.answer.specs.declared.report.Report.{Report}
 abbrev pub accepted : Meaning → ℕ → List Call → List ℕ
 accepted m slots calls = (run (terms m m.nonterminals slots) empty calls).entries
 
--- how many records a tree wrote
-abbrev pub written_by : Result ℕ Refusal → ℕ
-written_by (Ok k) = k
-written_by (Err why) = 0
-
 -- v is the sum over the derivations of the entries from the starts, where each weighs one
 abbrev pub UnitTotal : {S : Type 0} → Operations S → Meaning → List ℕ → S → Type 0
 UnitTotal s m es v = TotalOf s (EntriesFromStarts m es) (weight_of s (by (λ cost bottom. s.one)) m) v
@@ -39,4 +33,4 @@ pub record Comes (m : Meaning) (es : List ℕ) (x : Report) : Type 0 where
   pub read : UnitTotal yes_no m es x.totals.read
   pub counts : UnitTotal count m es x.totals.count
   pub costs : TotalOf cost (EntriesFromStarts m es) (weight_of cost by_cost m) x.totals.cost
-  pub nodes : Drawn m es (take x.nodes x.records)
+  pub nodes : Drawn m es x.nodes.items

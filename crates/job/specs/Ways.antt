@@ -1,5 +1,5 @@
 -- The ways to read the entries of a job, in the words of its table alone. Assumes nothing.
-use Rattle.std.specs.Prelude.{◌≡◌, ℕ, ◌-◌, ◌*◌, ◌≤◌, ◌⊎◌, List, length, take, Some, None, Option}
+use Rattle.std.specs.Prelude.{◌≡◌, ℕ, ◌-◌, ◌*◌, ◌≤◌, ◌⊎◌, List, length, Some, None, Option}
 use Rattle.semiring.specs.Semirings.{Operations}
 use Rattle.semiring.specs.YesNos.{yes_no}
 use Rattle.semiring.specs.Counts.{count}
@@ -60,4 +60,4 @@ pub record InWays (d : Described) (x : Report) : Type 0 where
   pub read : OverWays yes_no (λ cost bottom. yes_no.one) d x.totals.read
   pub counts : OverWays count (λ cost bottom. count.one) d x.totals.count
   pub costs : OverWays cost (λ cost bottom. costing cost) d x.totals.cost
-  pub nodes : DrawnWay d (take x.nodes x.records)
+  pub nodes : DrawnWay d x.nodes.items

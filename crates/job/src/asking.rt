@@ -7,7 +7,7 @@ ghost use Rattle.semiring.specs.Costs.{cost, none};
 ghost use Rattle.grammar.specs.Totals.{TotalOf, weight_of};
 ghost use Rattle.grammar.specs.Costs.{by_cost};
 ghost use Rattle.runs.specs.Trees.{TreeAfter};
-ghost use Rattle.job.specs.Reports.{accepted, written_by, UnitTotal, Comes};
+ghost use Rattle.job.specs.Reports.{accepted, UnitTotal, Comes};
 
 use crate::entering::SLOTS;
 use answer::report::{Report, Totals};
@@ -16,21 +16,13 @@ use entries::call::Call;
 use grammar::grammar::Grammar;
 use grammar::refusal::Refusal;
 use grammar::weighing::UnitWeighing;
+use lists::list::List;
 use runs::replay::{Replayed, replay};
 use semiring::cost::Cost;
 use semiring::count::Count;
 use semiring::semiring::Semiring;
 use semiring::yes_no::YesNo;
 use tree::record::Record;
-
-// Whether there is a derivation: the least cost is not "none".
-fn is_read(cost: Cost) -> YesNo
-    ensures { result ≡ of_bool (not (cost.value == none)) }
-{
-    YesNo {
-        value: cost.value != u32::MAX,
-    }
-}
 
 // What the calls come to by the grammar: counts and costs are the slots of two charts.
 fn ask<G: Grammar>(
@@ -67,23 +59,15 @@ fn ask<G: Grammar>(
     match total {
         Ok(count) => (
             Totals {
-                read: is_read(cost),
+                read: YesNo {
+                    value: !cost.is_none(),
+                },
                 count,
                 cost,
             },
             tree,
         ),
-        Err(_) => unreachable(),
-    }
-}
-
-// How many records were written.
-fn written(tree: Result<usize, Refusal>) -> usize
-    ensures { result ≡ written_by tree }
-{
-    match tree {
-        Ok(nodes) => nodes,
-        Err(_) => 0,
+        Err(_) => unreachable!(),
     }
 }
 
@@ -105,7 +89,6 @@ pub(crate) fn report<G: Grammar>(grammar: &G, calls: &[Call]) -> Report
     );
     Report {
         totals,
-        nodes: written(tree),
-        records,
+        nodes: List::first(records, tree.unwrap_or(0)),
     }
 }

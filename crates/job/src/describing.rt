@@ -1,15 +1,14 @@
 // What each command adds to a description.
-ghost use Rattle.std.specs.Prelude.{◌≡◌, ◌*◌, ◌≤◌, [], ◌∷◌, ◌++◌, length, Some, None};
+ghost use Rattle.std.specs.Prelude.{◌≡◌, ◌≤◌, [], None};
+ghost use Rattle.grammar.specs.Refusals.{accepted_unless};
 ghost use Rattle.automata.specs.Making.{table_made};
-ghost use Rattle.automata.specs.Held.{table_machine};
-ghost use Rattle.layers.specs.Renaming.{readings_refused, readings_made};
-ghost use Rattle.layers.specs.Held.{banned};
-ghost use Rattle.job.specs.Describing.{Later, refusal, taken, automaton_refusal, reading_refusal, with_reading, entry_refusal, codes_over};
-ghost use Rattle.job.specs.Held.{held, entries_of, recorder_in};
+ghost use Rattle.table.specs.Drafts.{contents};
+ghost use Rattle.commands.specs.declared.command.Command.{Command};
+ghost use Rattle.job.specs.Describing.{Later, Taking, nonterminals_of, codes_of};
+ghost use Rattle.job.specs.Held.{held};
 
-use crate::appends::Appends;
 use crate::description::Description;
-use crate::entering::refused_entry;
+use crate::entering::check_entry;
 use automata::automaton::Automaton;
 use automata::table::TableAutomaton;
 use commands::command::Command;
@@ -17,27 +16,28 @@ use grammar::refusal::Refusal;
 use grammar::rule::Expansion;
 use layers::bans::Bans;
 use layers::readings::Readings;
+use lists::list::List;
 use table::draft::Draft;
 
-impl Description {
-    // What a job has described that has declared so many codes: an automaton of one state, which accepts, and nothing else.
-    pub(crate) fn new(codes: u32) -> Description
-        ensures { (banned result.bans ≡ []) × (table_machine result.automaton ≡ table_made 1 codes 0 1) × (result.readings ≡ None) × (entries_of result.entries ≡ []) }
+impl<'a> Description<'a> {
+    // What a job has described that has declared its grammar: an automaton of one state, which accepts, and nothing else.
+    pub(crate) fn new(draft: Draft<'a>) -> Description<'a>
+        ensures { held result ≡ record { table = contents draft.entry; bans = []; machine = table_made 1 (contents draft.entry).codes 0 1; recorder = None; entries = [] } }
     {
-        let (automaton, _) = TableAutomaton::new(1, codes, 0, 1);
+        let (automaton, _) = TableAutomaton::new(1, draft.codes(), 0, 1);
         Description {
+            draft,
             bans: Bans::none(),
             automaton,
             readings: None,
-            entries: Appends::none(),
+            entries: List::new(0),
         }
     }
 
-    // Takes one command, of which rules go to the draft, unless it is refused.
-    pub(crate) fn take(&mut self, draft: &mut Draft<'_>, command: Command) -> Option<Refusal>
+    // Takes one command, unless it is refused.
+    pub(crate) fn take(&mut self, command: Command) -> Result<(), Refusal>
         requires { Later command }
-        ensures refusal { result ≡ refusal (held draft.old self.old) command }
-        ensures after { result ≡ None → held draft.new self.new ≡ taken (held draft.old self.old) command }
+        ensures { Taking (held self.old) command result (held self.new) }
     {
         match command {
             Command::Pair {
@@ -50,41 +50,48 @@ impl Description {
                     left: u32::from(left),
                     right: u32::from(right),
                 };
-                draft.add(u32::from(lhs), expansion, cost).err()
+                self.draft.add(u32::from(lhs), expansion, cost)?;
+                Ok(())
             }
-            Command::Leaf { lhs, code, cost } => draft
-                .add(u32::from(lhs), Expansion::Leaf { code }, cost)
-                .err(),
-            Command::Ban { number } => self.bans.add(u32::from(number)),
+            Command::Leaf { lhs, code, cost } => {
+                self.draft
+                    .add(u32::from(lhs), Expansion::Leaf { code }, cost)?;
+                Ok(())
+            }
+            Command::Ban { number } => match self.bans.add(u32::from(number)) {
+                None => Ok(()),
+                Some(why) => Err(why),
+            },
             Command::Automaton {
                 states,
                 codes,
                 start,
                 accepting,
-            } => self.take_automaton(draft.codes(), states, codes, start, accepting),
-            Command::Step { from, code, to } => self
+            } => self.take_automaton(states, codes, start, accepting),
+            Command::Step { from, code, to } => match self
                 .automaton
-                .write(u32::from(from), code, u32::from(to)),
+                .write(u32::from(from), code, u32::from(to))
+            {
+                None => Ok(()),
+                Some(why) => Err(why),
+            },
             Command::Renaming { count } => self.take_renaming(count),
             Command::Reading { recorder, code } => self.take_reading(recorder, code),
-            Command::Entry { codes } => self.take_entry(draft.nonterminals(), draft.codes(), codes),
-            Command::End => None,
-            Command::Grammar { .. } => unreachable(),
+            Command::Entry { codes } => self.take_entry(codes),
+            Command::End => Ok(()),
+            Command::Grammar { .. } => unreachable!(),
         }
     }
 
     // Takes an automaton, which has at least as many codes as the grammar.
     fn take_automaton(
         &mut self,
-        least: u32,
         states: u8,
         codes: u8,
         start: u8,
         accepting: u8,
-    ) -> Option<Refusal>
-        ensures refusal { result ≡ automaton_refusal least states codes start accepting }
-        ensures after { result ≡ None → table_machine self.new.automaton ≡ table_made states codes start accepting }
-        ensures same { (self.new.bans ≡ self.old.bans) × (self.new.readings ≡ self.old.readings) × (self.new.entries ≡ self.old.entries) }
+    ) -> Result<(), Refusal>
+        ensures { Taking (held self.old) (Command.Automaton states codes start accepting) result (held self.new) }
     {
         let (automaton, refused) = TableAutomaton::new(
             u32::from(states),
@@ -92,79 +99,64 @@ impl Description {
             u32::from(start),
             accepting,
         );
-        if refused.is_some() {
-            return refused;
+        if let Some(refusal) = refused {
+            return Err(refusal);
         }
-        if u32::from(codes) < least {
-            return Some(Refusal::FewerCodes);
+        if u32::from(codes) < self.draft.codes() {
+            return Err(Refusal::FewerCodes);
         }
         self.automaton = automaton;
-        None
+        Ok(())
     }
 
     // Takes a renaming, which reads nothing yet.
-    fn take_renaming(&mut self, count: u8) -> Option<Refusal>
-        ensures refusal { result ≡ readings_refused count }
-        ensures after { result ≡ None → recorder_in self.new.readings ≡ Some (readings_made count) }
-        ensures same { (self.new.bans ≡ self.old.bans) × (self.new.automaton ≡ self.old.automaton) × (self.new.entries ≡ self.old.entries) }
+    fn take_renaming(&mut self, count: u8) -> Result<(), Refusal>
+        ensures { Taking (held self.old) (Command.Renaming count) result (held self.new) }
     {
         let (readings, refused) = Readings::new(u32::from(count));
-        if refused.is_none() {
-            self.readings = Some(readings);
+        if let Some(refusal) = refused {
+            return Err(refusal);
         }
-        refused
+        self.readings = Some(readings);
+        Ok(())
     }
 
     // Takes a reading of a recorder code.
-    fn take_reading(&mut self, recorder: u8, code: u8) -> Option<Refusal>
-        ensures refusal { result ≡ reading_refusal (recorder_in self.old.readings) recorder code }
-        ensures after { recorder_in self.new.readings ≡ with_reading recorder code (recorder_in self.old.readings) }
-        ensures same { (self.new.bans ≡ self.old.bans) × (self.new.automaton ≡ self.old.automaton) × (self.new.entries ≡ self.old.entries) }
+    fn take_reading(&mut self, recorder: u8, code: u8) -> Result<(), Refusal>
+        ensures { Taking (held self.old) (Command.Reading recorder code) result (held self.new) }
     {
-        match self.readings {
-            None => None,
-            Some(mut readings) => {
-                let refused = readings.read_as(recorder, code);
-                self.readings = Some(readings);
-                refused
-            }
+        let Some(readings) = &mut self.readings else {
+            return Ok(());
+        };
+        match readings.read_as(recorder, code) {
+            None => Ok(()),
+            Some(why) => Err(why),
         }
     }
 
     // Takes an entry.
-    fn take_entry(&mut self, nonterminals: u32, codes: u32, bits: u32) -> Option<Refusal>
-        requires { (nonterminals ≤ 32) × (codes ≤ 32) }
-        ensures refusal { result ≡ entry_refusal (nonterminals * (table_machine self.old.automaton).states * (table_machine self.old.automaton).states) (codes_over (recorder_in self.old.readings) codes) (length (entries_of self.old.entries)) bits }
-        ensures after { result ≡ None → entries_of self.new.entries ≡ entries_of self.old.entries ++ (bits ∷ []) }
-        ensures same { (self.new.bans ≡ self.old.bans) × (self.new.automaton ≡ self.old.automaton) × (self.new.readings ≡ self.old.readings) }
+    fn take_entry(&mut self, codes: u32) -> Result<(), Refusal>
+        ensures { Taking (held self.old) (Command.Entry codes) result (held self.new) }
     {
-        let nonterminals = self.nonterminals_over(nonterminals);
-        let codes = self.codes_over(codes);
-        let refused = refused_entry(nonterminals, codes, self.entries.len(), bits);
-        if refused.is_none() {
-            self.entries.push(bits);
-        }
-        refused
+        check_entry(self.nonterminals(), self.codes(), self.entries.len(), codes)?;
+        let _ = self.entries.push(codes);
+        Ok(())
     }
 
-    // How many nonterminals the job's grammar has over a table of so many.
-    fn nonterminals_over(&self, table: u32) -> u32
-        requires { table ≤ 32 }
-        ensures is { result ≡ table * (table_machine self.now.automaton).states * (table_machine self.now.automaton).states }
-        ensures few { result ≤ 2048 }
+    // How many nonterminals the job's grammar has.
+    fn nonterminals(&self) -> u32
+        ensures { result ≡ nonterminals_of (held self.now) }
     {
         let states = self.automaton.states();
-        table * states * states
+        self.draft.nonterminals() * states * states
     }
 
-    // How many codes the job's grammar has over a table of so many.
-    fn codes_over(&self, table: u32) -> u32
-        requires { table ≤ 32 }
-        ensures is { result ≡ codes_over (recorder_in self.now.readings) table }
-        ensures few { result ≤ 32 }
+    // How many codes the job's grammar has.
+    fn codes(&self) -> u32
+        ensures { result ≡ codes_of (held self.now) }
     {
         match self.readings {
-            None => table,
+            None => self.draft.codes(),
             Some(readings) => readings.count(),
         }
     }

@@ -1,5 +1,6 @@
 // Whether an entry may come.
 ghost use Rattle.std.specs.Prelude.{◌≡◌};
+ghost use Rattle.grammar.specs.Refusals.{accepted_unless};
 ghost use Rattle.job.specs.Describing.{entry_refusal};
 
 use entries::admission::{is_full, is_improper};
@@ -8,20 +9,20 @@ use grammar::refusal::Refusal;
 // The slots of each chart.
 pub(crate) const SLOTS: usize = 4096;
 
-// Why an entry is refused after `count` others, or none, by a grammar of `nonterminals` and `codes`.
-pub(crate) fn refused_entry(
+// Whether an entry may come after `count` others, by a grammar of `nonterminals` and `codes`, or why it is refused.
+pub(crate) fn check_entry(
     nonterminals: u32,
     codes: u32,
     count: usize,
     bits: u32,
-) -> Option<Refusal>
-    ensures { result ≡ entry_refusal nonterminals codes count bits }
+) -> Result<(), Refusal>
+    ensures { result ≡ accepted_unless (entry_refusal nonterminals codes count bits) }
 {
     if is_improper(bits, codes) {
-        return Some(Refusal::BadEntry);
+        return Err(Refusal::BadEntry);
     }
     if is_full(count, nonterminals, SLOTS) {
-        return Some(Refusal::NoRoom);
+        return Err(Refusal::NoRoom);
     }
-    None
+    Ok(())
 }

@@ -3,7 +3,6 @@
 
 pub mod answering;
 mod appending;
-mod appends;
 mod asking;
 mod describing;
 mod description;

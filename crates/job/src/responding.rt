@@ -4,6 +4,7 @@ ghost use Rattle.job.specs.Answers.{Says};
 ghost use Rattle.job.specs.Outcomes.{OneOutcome};
 
 use crate::answering::answer;
+use answer::text::text;
 use std::alloc::{AllocError, Global};
 
 // The text of the answer to a job.
@@ -11,6 +12,5 @@ pub fn respond(heap: Global, input: &[u8]) -> Result<String, AllocError>
     ensures says { IfOk result (λ s. Says input.now (string_bytes s)) }
     ensures one { OneOutcome input.now }
 {
-    let answer = answer(input);
-    format!(in heap; "{answer}")
+    text(heap, &answer(input))
 }

@@ -1,14 +1,14 @@
-use Rattle.std.proofs.Common.{◌≡◌, ℕ, [], map, Some, None, Option, sym, refl, ap, ◌∙◌, subst, inr}
+use Rattle.std.proofs.Common.{◌≡◌, ℕ, [], map, Some, None, Option, sym, refl, ap, ◌∙◌, inr, length, arith}
+use Rattle.std.proofs.lemmas.Result.{err_from_is_err_and}
 use Rattle.grammar.specs.declared.refusal.Refusal.{Refusal}
 use Rattle.table.specs.Drafts.{fresh}
 use Rattle.commands.specs.declared.command.Command.TheVariants.{Grammar}
 use Rattle.commands.specs.Readers.{left}
 use Rattle.job.specs.Appending.{appended}
-use Rattle.job.specs.Describing.{stacked}
 use Rattle.job.specs.Held.{held}
 use Rattle.job.specs.Loading.{input_of}
-use Rattle.job.specs.Reports.{accepted, Comes}
 use Rattle.job.proofs.Arrivals.{reads, held_small}
+use Rattle.job.proofs.Fitting.{few_entries}
 use Rattle.job.proofs.answering.answer_with.Goals as goal
 
 -- why a draft was refused
@@ -31,11 +31,17 @@ returns-in-Some c =
       here = refl;
     }))
 
-pub returns-in-Ok : goal.returns-in-Ok
-returns-in-Ok c =
-    let t = c.load.new.draft in
+pub returns-in_err-load : goal.returns-in_err-load
+returns-in_err-load c =
+    let p = err_from_is_err_and c.from_residual.result c.from_residual.ensures.1 in
+    rw (p.1, p.2) c.in_err-load.ensures
+
+pub appends-calls-requires : goal.appends-calls-requires
+appends-calls-requires c = omega (arith, few_entries _ _ c.in_ok-load.ensures, ap length c.as_slice.ensures)
+
+pub returns : goal.returns
+returns c =
     let d = c.load.new.description in
-    let h = held t d in
-    let x = c.stack_report.result in
-    reads (input_of c.args.reader) h x c.in-Ok.ensures (held_small t d)
-    (subst (λ m. Comes (stacked h.bans h.machine h.recorder m) (accepted (stacked h.bans h.machine h.recorder m) 4096 (map appended h.entries)) x) c.seal.ensures c.stack_report.ensures)
+    reads (input_of c.args.reader) (held d) _ _ c.stack_report.result c.in_ok-load.ensures (held_small d) c.seal.ensures
+    (c.as_slice-2.ensures ∙ c.appends-calls.ensures ∙ ap (map appended) c.as_slice.ensures)
+    c.stack_report.ensures

@@ -1,13 +1,12 @@
-use Rattle.std.proofs.Common.{◌≡◌, ◌≤◌, length, IfOk, ap, ◌∙◌, subst, arith}
+use Rattle.std.proofs.Common.{◌≡◌, length, IfOk, ap, ◌∙◌, subst}
 use Rattle.semiring.specs.Counts.{count}
 use Rattle.entries.specs.Model.{terms, state, empty}
-use Rattle.entries.proofs.Listing.{size}
 use Rattle.runs.specs.Runs.{run}
 use Rattle.job.specs.Reports.{accepted, UnitTotal}
 use Rattle.job.proofs.asking.ask.Goals as goal
 
-pub returns : goal.returns
-returns g c =
+pub returns-clause-count : goal.returns-clause-count
+returns-clause-count g c =
     let m = g.G.Grammar.meaning c.args.grammar.now in
     let calls = c.args.calls.now in
     let e = c.replay-total.new.chart.entries in
@@ -16,10 +15,4 @@ returns g c =
     ap (λ s. s.entries) c.replay-total.ensures.after ∙ (λ i. (run (terms m (start.own i) (length (start.same i))) empty calls).entries) in
     let whole : UnitTotal count m (state e).entries c.in-Ok.count =
     subst (λ r. IfOk r (UnitTotal count m (state e).entries)) c.in-Ok.is c.replay-total.ensures.total in
-    record {
-      count = subst (λ es. UnitTotal count m es c.in-Ok.count) at whole;
-      cost = c.replay-total.ensures.cost;
-      read = c.is_read.ensures;
-      tree = c.replay-total.ensures.tree;
-      few = subst (λ es. length es ≤ 64) at (omega (arith, size e, e.few));
-    }
+    subst (λ es. UnitTotal count m es c.in-Ok.count) at whole

@@ -1,4 +1,4 @@
-use Rattle.std.proofs.Common.{take, sym, refl, subst}
+use Rattle.std.proofs.Common.{take, sym, refl, ap, ◌∙◌, subst}
 use Rattle.semiring.specs.YesNos.{yes_no}
 use Rattle.job.specs.Reports.{accepted, UnitTotal, Drawn}
 use Rattle.job.proofs.Drawing.{drawn}
@@ -15,5 +15,5 @@ returns g c =
       read = subst (UnitTotal yes_no m es) (sym asked.read) (read_by_cost m (g.G.Grammar.shown c.args.grammar.now) es asked.few _ _ asked.cost refl);
       counts = asked.count;
       costs = asked.cost;
-      nodes = subst (λ k. Drawn m es (take k new)) (sym c.written.ensures) (drawn m es _ new asked.few refl c.ask-tree.auto.records c.ask-tree.result.1 asked.tree);
+      nodes = subst (Drawn m es) (sym (c.first.ensures ∙ ap (λ k. take k new) c.unwrap_or.ensures)) (drawn m es _ new asked.few refl c.ask-tree.auto.records c.ask-tree.result.1 asked.tree);
     }

@@ -14,15 +14,15 @@ returns-in_err-command c =
     let p = err_from_is_err_and c.from_residual.result c.from_residual.ensures.1 in
     rw (p.1, p.2) (subst (λ i. FirstFault i.now f.refusal f.place) inv.0 (stopped c.loop-command.reader inv.1.before inv.1.read inv.1.passes c.next.new.self f c.in_err-command.ensures.step))
 
-pub returns-in_err-map_err : goal.returns-in_err-map_err
-returns-in_err-map_err c =
-    let why : refusal (held c.loop-command.description) c.in-Some.command ≡ Some c.in_err-map_err.field-0.0.refusal = grind arith in
-    let here : c.in_err-map_err.field-0.0.place ≡ c.loop-command.reader.place = grind arith in
+pub returns-in_err-faulted_at : goal.returns-in_err-faulted_at
+returns-in_err-faulted_at c =
+    let why : refusal (held c.loop-command.description) c.in-Some.command ≡ Some c.in_err-faulted_at.field-0.0.refusal = grind arith in
+    let here : c.in_err-faulted_at.field-0.0.place ≡ c.loop-command.reader.place = grind arith in
     let inv = c.loop-command.invariant in
-    let f = c.in_err-map_err.field-0.0 in
+    let f = c.in_err-faulted_at.field-0.0 in
     let took = rw c.in-Some.is at c.in_ok-command.ensures.step in
     let read = rw c.in-Some.is at (c.in_ok-command.ensures.read inv.1.before inv.1.read) in
-    let p = err_from_is_err_and c.from_residual-in_err-map_err.result c.from_residual-in_err-map_err.ensures.1 in
+    let p = err_from_is_err_and c.from_residual-in_err-faulted_at.result c.from_residual-in_err-faulted_at.ensures.1 in
     rw (p.1, p.2) (subst (λ i. FirstFault i.now f.refusal f.place) inv.0 (refused c.loop-command.reader _ inv.1 c.next.new.self c.in-Some.command f took.same took.short read.1 why here))
 
 pub loop-command-preserved : goal.loop-command-preserved

@@ -58,23 +58,16 @@ impl<'a> Description<'a> {
                     .add(u32::from(lhs), Expansion::Leaf { code }, cost)?;
                 Ok(())
             }
-            Command::Ban { number } => match self.bans.add(u32::from(number)) {
-                None => Ok(()),
-                Some(why) => Err(why),
-            },
+            Command::Ban { number } => self.bans.add(u32::from(number)),
             Command::Automaton {
                 states,
                 codes,
                 start,
                 accepting,
             } => self.take_automaton(states, codes, start, accepting),
-            Command::Step { from, code, to } => match self
+            Command::Step { from, code, to } => self
                 .automaton
-                .write(u32::from(from), code, u32::from(to))
-            {
-                None => Ok(()),
-                Some(why) => Err(why),
-            },
+                .write(u32::from(from), code, u32::from(to)),
             Command::Renaming { count } => self.take_renaming(count),
             Command::Reading { recorder, code } => self.take_reading(recorder, code),
             Command::Entry { codes } => self.take_entry(codes),
@@ -128,10 +121,7 @@ impl<'a> Description<'a> {
         let Some(readings) = &mut self.readings else {
             return Ok(());
         };
-        match readings.read_as(recorder, code) {
-            None => Ok(()),
-            Some(why) => Err(why),
-        }
+        readings.read_as(recorder, code)
     }
 
     // Takes an entry.

@@ -2,12 +2,14 @@
 use crate::known::{Sheet, check_sheet};
 use crate::rules::{known_readings, known_rules};
 use automata::counting::CountingAutomaton;
+use grammar::grammar::Grammar;
 use grammar::rule::Rule;
 use layers::ban::Ban;
 use layers::bans::Bans;
 use layers::intersection::Intersection;
 use layers::renaming::Renaming;
 use layers::reversal::Reversal;
+use std::process::Abort;
 use std::test::Fail;
 
 #[test]
@@ -53,14 +55,12 @@ fn one_layer(rt: HostRuntime) -> Result<(), Fail> {
 }
 
 // Of the nine words of recorder codes, the five with a code that is read as 1 have one derivation each.
-#[test]
-fn all_layers(rt: HostRuntime) -> Result<(), Fail> {
-    let mut rows = [Rule::BLANK; 3];
+fn check_stack<G: Grammar + Drop>(rt: &impl Abort, bottom: G) -> Result<(), Fail> {
     let (automaton, _) = CountingAutomaton::new(2, 1, 1);
-    let (crossed, _) = Intersection::lay(Ban::lay(known_rules(&mut rows), Bans::none()), automaton);
+    let (crossed, _) = Intersection::lay(Ban::lay(bottom, Bans::none()), automaton);
     let (renamed, _) = Renaming::lay(crossed, known_readings());
     check_sheet(
-        &rt,
+        rt,
         &Reversal::lay(renamed),
         Sheet {
             bits: 0b111,
@@ -69,4 +69,10 @@ fn all_layers(rt: HostRuntime) -> Result<(), Fail> {
             cost: 6,
         },
     )
+}
+
+#[test]
+fn all_layers(rt: HostRuntime) -> Result<(), Fail> {
+    let mut rows = [Rule::BLANK; 3];
+    check_stack(&rt, known_rules(&mut rows))
 }

@@ -93,10 +93,7 @@ fn check_cells<G: Grammar>(
     fresh.append(grammar, &UnitWeighing::new(), LEFT[1])?;
     fresh.append(grammar, &UnitWeighing::new(), LEFT[2])?;
     for (begin, end) in SPANS {
-        assert_eq!(rt;
-            chart.cell(begin, end, 0),
-            fresh.cell(begin, end, 0)
-        );
+        assert_eq!(rt; chart.cell(begin, end, 0), fresh.cell(begin, end, 0));
     }
     Ok(())
 }

@@ -1,10 +1,12 @@
 // All calls of a list, one after another.
-ghost use Rattle.std.specs.Prelude.{◌≡◌, ℕ, ◌<◌, ◌≤◌, length, is_some, Ok, slice_index_or};
+ghost use Rattle.std.specs.Prelude.{◌≡◌, ◌≢◌, ℕ, ◌<◌, length, is_some, Ok, slice_index_or};
 ghost use Rattle.entries.specs.Model.{terms, state, empty};
 ghost use Rattle.chart.specs.Stands.{ChartStands};
-ghost use Rattle.runs.specs.Runs.{run, answers as all_answers};
+ghost use Rattle.runs.specs.Runs.{RanAll};
+ghost use Rattle.runs.specs.Calls.{SameSlots, SameShown, RanAnew};
 
-use crate::perform::{begin, perform};
+use crate::perform::begin;
+use crate::run::Run;
 use chart::chart::Chart;
 use entries::call::Call;
 use entries::trial::Trial;
@@ -13,34 +15,29 @@ use grammar::refusal::Refusal;
 use grammar::weighing::Weighing;
 use semiring::semiring::Semiring;
 
-// All calls of a list, with the answer to each, as far as there is room for the answers.
-pub(crate) fn run_calls<'a, S: Semiring, G: Grammar, W: Weighing<Value = S>>(
-    chart: &mut Chart<'a, S>,
-    grammar: &G,
-    weighing: &W,
-    calls: &[Call],
-    answers: &mut [Result<(), Refusal>],
-    held: Option<Trial>,
-) -> Option<Trial>
-    requires { is_some held ≡ chart.old.entries.trial }
-    ensures after { state chart.new.entries ≡ run (terms (G.meaning grammar.now) chart.old.entries.nonterminals (length chart.old.slots.cells.now)) (state chart.old.entries) calls.now }
-    ensures answered { (k : ℕ) → k < length calls.now → k < length answers.old → slice_index_or answers.new k (Ok tt) ≡ slice_index_or (all_answers (terms (G.meaning grammar.now) chart.old.entries.nonterminals (length chart.old.slots.cells.now)) (state chart.old.entries) calls.now) k (Ok tt) }
-    ensures beyond { (k : ℕ) → length calls.now ≤ k → slice_index_or answers.new k (Ok tt) ≡ slice_index_or answers.old k (Ok tt) }
-    ensures held { is_some result ≡ chart.new.entries.trial }
-    ensures stands { ChartStands S.ring (W.weight weighing.now) (G.meaning grammar.now) chart.old.entries chart.old.slots.cells.now → ChartStands S.ring (W.weight weighing.now) (G.meaning grammar.now) chart.new.entries chart.new.slots.cells.now }
-    ensures own { chart.new.entries.nonterminals ≡ chart.old.entries.nonterminals }
-    ensures long { length chart.new.slots.cells.now ≡ length chart.old.slots.cells.now }
-    ensures named { chart.new.slots.cells.ghost_name ≡ chart.old.slots.cells.ghost_name }
+// Writes an answer at a place, where there is room for it. By index: of what is written through `get_mut` nothing is proved.
+fn write_answer(answer: Result<(), Refusal>, answers: &mut [Result<(), Refusal>], i: usize)
+    ensures there { i < length answers.old → slice_index_or answers.new i (Ok tt) ≡ answer }
+    ensures rest { (k : ℕ) → k ≢ i → slice_index_or answers.new k (Ok tt) ≡ slice_index_or answers.old k (Ok tt) }
 {
-    let mut trial = held;
-    for (i, call) in calls.iter().enumerate() {
-        let (answer, next) = perform(chart, grammar, weighing, *call, trial);
-        trial = next;
-        if i < answers.len() {
-            answers[i] = answer;
+    if i < answers.len() {
+        answers[i] = answer;
+    }
+}
+
+impl<'a, S: Semiring, G: Grammar, W: Weighing<Value = S>> Run<'_, '_, '_, 'a, S, G, W> {
+    // All calls of a list, with the answer to each, as far as there is room for the answers.
+    fn perform_all(&mut self, calls: &[Call], answers: &mut [Result<(), Refusal>])
+        ensures ran { RanAll (terms (G.meaning self.old.grammar.now) self.old.chart.now.entries.nonterminals (length self.old.chart.now.slots.cells.now)) (state self.old.chart.now.entries) calls.now (state self.new.chart.now.entries) answers.old answers.new }
+        ensures stands { ChartStands S.ring (W.weight self.old.weighing.now) (G.meaning self.old.grammar.now) self.old.chart.now.entries self.old.chart.now.slots.cells.now → ChartStands S.ring (W.weight self.old.weighing.now) (G.meaning self.old.grammar.now) self.new.chart.now.entries self.new.chart.now.slots.cells.now }
+        ensures slots { SameSlots self.old.chart.now self.new.chart.now }
+        ensures lent { self.new.chart.ghost_name ≡ self.old.chart.ghost_name }
+        ensures shown { SameShown self.old self.new }
+    {
+        for (i, call) in calls.iter().enumerate() {
+            write_answer(self.perform(*call), answers, i);
         }
     }
-    trial
 }
 
 // Clears the chart and makes all calls of a list on it, with the answer to each, as far as there is room for the answers.
@@ -51,15 +48,22 @@ pub(crate) fn run_anew<'a, S: Semiring, G: Grammar, W: Weighing<Value = S>>(
     calls: &[Call],
     answers: &mut [Result<(), Refusal>],
 ) -> Option<Trial>
-    ensures after { state chart.new.entries ≡ run (terms (G.meaning grammar.now) chart.old.entries.nonterminals (length chart.old.slots.cells.now)) empty calls.now }
-    ensures answered { (k : ℕ) → k < length calls.now → k < length answers.old → slice_index_or answers.new k (Ok tt) ≡ slice_index_or (all_answers (terms (G.meaning grammar.now) chart.old.entries.nonterminals (length chart.old.slots.cells.now)) empty calls.now) k (Ok tt) }
-    ensures beyond { (k : ℕ) → length calls.now ≤ k → slice_index_or answers.new k (Ok tt) ≡ slice_index_or answers.old k (Ok tt) }
+    ensures anew { RanAnew S.ring (W.weight weighing.now) (G.meaning grammar.now) calls.now chart.old chart.new answers.old answers.new }
     ensures held { is_some result ≡ chart.new.entries.trial }
-    ensures stands { ChartStands S.ring (W.weight weighing.now) (G.meaning grammar.now) chart.new.entries chart.new.slots.cells.now }
-    ensures own { chart.new.entries.nonterminals ≡ chart.old.entries.nonterminals }
-    ensures long { length chart.new.slots.cells.now ≡ length chart.old.slots.cells.now }
-    ensures named { chart.new.slots.cells.ghost_name ≡ chart.old.slots.cells.ghost_name }
 {
-    let held = begin(chart);
-    run_calls(chart, grammar, weighing, calls, answers, held)
+    begin(chart);
+    let mut run = Run {
+        chart,
+        grammar,
+        weighing,
+        held: None,
+    };
+    run.perform_all(calls, answers);
+    let Run {
+        chart: _,
+        grammar: _,
+        weighing: _,
+        held,
+    } = run;
+    held
 }

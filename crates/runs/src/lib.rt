@@ -4,3 +4,4 @@
 mod calls;
 mod perform;
 pub mod replay;
+mod run;

@@ -1,10 +1,10 @@
-// One call of a list.
-ghost use Rattle.std.specs.Prelude.{◌≡◌, ℕ, length, is_some, None, Ok};
-ghost use Rattle.grammar.specs.Grammars.{Meaning};
+// One call of a run.
+ghost use Rattle.std.specs.Prelude.{◌≡◌, Ok};
+ghost use Rattle.entries.specs.Model.{state};
 ghost use Rattle.entries.specs.declared.call.Call.{Call};
-ghost use Rattle.entries.specs.Model.{Terms, terms, state, Did};
-ghost use Rattle.chart.specs.Stands.{ChartStands};
+ghost use Rattle.runs.specs.Calls.{Moved, Performed, SameShown};
 
+use crate::run::Run;
 use chart::chart::Chart;
 use entries::call::Call;
 use entries::trial::Trial;
@@ -25,76 +25,85 @@ pub(crate) fn settle<'a, S: Semiring>(chart: &mut Chart<'a, S>, held: Option<Tri
     }
 }
 
-// Begins a run: the chart is cleared, and no token is in hand.
-pub(crate) fn begin<'a, S: Semiring>(chart: &mut Chart<'a, S>) -> Option<Trial>
-    ensures did { (t : Terms) → Did t chart.old.entries Call.Clear (Ok tt) chart.new.entries }
-    ensures held { result ≡ None }
-    ensures same { chart.new.slots.cells.now ≡ chart.old.slots.cells.now }
-    ensures named { chart.new.slots.cells.ghost_name ≡ chart.old.slots.cells.ghost_name }
+// Begins a run: the chart is cleared.
+pub(crate) fn begin<'a, S: Semiring>(chart: &mut Chart<'a, S>)
+    ensures { Moved S.ring Call.Clear (Ok tt) chart.old chart.new }
 {
     chart.clear();
-    None
 }
 
-// Keeps the entry on trial, by the token in hand; without one, no trial is open.
-fn keep<'a, S: Semiring>(chart: &mut Chart<'a, S>, held: Option<Trial>) -> Result<(), Refusal>
-    requires { is_some held ≡ chart.old.entries.trial }
-    ensures did { (t : Terms) → Did t chart.old.entries Call.Keep result chart.new.entries }
-    ensures stands { (w : ℕ → ℕ → S) (m : Meaning) → ChartStands S.ring w m chart.old.entries chart.old.slots.cells.now → ChartStands S.ring w m chart.new.entries chart.new.slots.cells.now }
-    ensures same { chart.new.slots.cells.now ≡ chart.old.slots.cells.now }
-    ensures named { chart.new.slots.cells.ghost_name ≡ chart.old.slots.cells.ghost_name }
-{
-    match held {
-        Some(trial) => chart.keep(trial),
-        None => Err(Refusal::NoTrial),
+impl<'a, S: Semiring, G: Grammar, W: Weighing<Value = S>> Run<'_, '_, '_, 'a, S, G, W> {
+    // Clears the chart; a token in hand is spent.
+    #[tactic(auto, using(crate::proofs::Marks::cleared_mark))]
+    fn clear(&mut self)
+        ensures moved { Moved S.ring Call.Clear (Ok tt) self.old.chart.now self.new.chart.now }
+        ensures lent { self.new.chart.ghost_name ≡ self.old.chart.ghost_name }
+        ensures shown { SameShown self.old self.new }
+    {
+        settle(self.chart, self.held.take());
+        begin(self.chart);
     }
-}
 
-// Withdraws the entry on trial, by the token in hand; without one, no trial is open.
-fn withdraw<'a, S: Semiring>(chart: &mut Chart<'a, S>, held: Option<Trial>) -> Result<(), Refusal>
-    requires { is_some held ≡ chart.old.entries.trial }
-    ensures did { (t : Terms) → Did t chart.old.entries Call.Withdraw result chart.new.entries }
-    ensures stands { (w : ℕ → ℕ → S) (m : Meaning) → ChartStands S.ring w m chart.old.entries chart.old.slots.cells.now → ChartStands S.ring w m chart.new.entries chart.new.slots.cells.now }
-    ensures same { chart.new.slots.cells.now ≡ chart.old.slots.cells.now }
-    ensures named { chart.new.slots.cells.ghost_name ≡ chart.old.slots.cells.ghost_name }
-{
-    match held {
-        Some(trial) => chart.withdraw(trial),
-        None => Err(Refusal::NoTrial),
+    // Removes the last entry.
+    #[tactic(auto, using(crate::proofs::Marks::took_back_mark))]
+    fn take_back(&mut self) -> Result<(), Refusal>
+        ensures moved { Moved S.ring Call.TakeBack result self.old.chart.now self.new.chart.now }
+        ensures lent { self.new.chart.ghost_name ≡ self.old.chart.ghost_name }
+        ensures shown { SameShown self.old self.new }
+    {
+        self.chart.take_back()
     }
-}
 
-// One call. A token in hand is spent by keep, withdraw and clear; keep and withdraw without one are answered that no trial is open.
-pub(crate) fn perform<'a, S: Semiring, G: Grammar, W: Weighing<Value = S>>(
-    chart: &mut Chart<'a, S>,
-    grammar: &G,
-    weighing: &W,
-    call: Call,
-    held: Option<Trial>,
-) -> (Result<(), Refusal>, Option<Trial>)
-    requires { is_some held ≡ chart.old.entries.trial }
-    ensures did { Did (terms (G.meaning grammar.now) chart.old.entries.nonterminals (length chart.old.slots.cells.now)) chart.old.entries call result.0 chart.new.entries }
-    ensures held { is_some result.1 ≡ chart.new.entries.trial }
-    ensures stands { ChartStands S.ring (W.weight weighing.now) (G.meaning grammar.now) chart.old.entries chart.old.slots.cells.now → ChartStands S.ring (W.weight weighing.now) (G.meaning grammar.now) chart.new.entries chart.new.slots.cells.now }
-    ensures long { length chart.new.slots.cells.now ≡ length chart.old.slots.cells.now }
-    ensures named { chart.new.slots.cells.ghost_name ≡ chart.old.slots.cells.ghost_name }
-{
-    match call {
-        Call::Clear => {
-            settle(chart, held);
-            (Ok(()), begin(chart))
+    // Keeps the entry on trial, by the token in hand; without one, no trial is open.
+    #[tactic(auto, using(crate::proofs::Marks::kept_mark))]
+    fn keep(&mut self) -> Result<(), Refusal>
+        ensures moved { Moved S.ring Call.Keep result self.old.chart.now self.new.chart.now }
+        ensures lent { self.new.chart.ghost_name ≡ self.old.chart.ghost_name }
+        ensures shown { SameShown self.old self.new }
+    {
+        let trial = self.held.take().ok_or(Refusal::NoTrial)?;
+        self.chart.keep(trial)
+    }
+
+    // Withdraws the entry on trial, by the token in hand; without one, no trial is open.
+    #[tactic(auto, using(crate::proofs::Marks::withdrawn_mark))]
+    fn withdraw(&mut self) -> Result<(), Refusal>
+        ensures moved { Moved S.ring Call.Withdraw result self.old.chart.now self.new.chart.now }
+        ensures lent { self.new.chart.ghost_name ≡ self.old.chart.ghost_name }
+        ensures shown { SameShown self.old self.new }
+    {
+        let trial = self.held.take().ok_or(Refusal::NoTrial)?;
+        self.chart.withdraw(trial)
+    }
+
+    // Tries an entry, and holds the token.
+    fn try_append(&mut self, bits: u32) -> Result<(), Refusal>
+        ensures performed { Performed S.ring (W.weight self.old.weighing.now) (G.meaning self.old.grammar.now) (Call.Try bits) result self.old.chart.now self.new.chart.now }
+        ensures lent { self.new.chart.ghost_name ≡ self.old.chart.ghost_name }
+        ensures shown { SameShown self.old self.new }
+    {
+        let trial = self.chart.try_append(self.grammar, self.weighing, bits)?;
+        self.held = Some(trial);
+        Ok(())
+    }
+
+    // One call. A token in hand is spent by keep, withdraw and clear; keep and withdraw without one are answered that no trial is open.
+    pub(crate) fn perform(&mut self, call: Call) -> Result<(), Refusal>
+        ensures performed { Performed S.ring (W.weight self.old.weighing.now) (G.meaning self.old.grammar.now) call result self.old.chart.now self.new.chart.now }
+        ensures lent { self.new.chart.ghost_name ≡ self.old.chart.ghost_name }
+        ensures shown { SameShown self.old self.new }
+    {
+        match call {
+            Call::Clear => {
+                self.clear();
+                Ok(())
+            }
+            Call::Append(bits) => self.chart.append(self.grammar, self.weighing, bits),
+            Call::TakeBack => self.take_back(),
+            Call::Replace(k, bits) => self.chart.replace(self.grammar, self.weighing, k, bits),
+            Call::Try(bits) => self.try_append(bits),
+            Call::Keep => self.keep(),
+            Call::Withdraw => self.withdraw(),
         }
-        Call::Append(bits) => (chart.append(grammar, weighing, bits), held),
-        Call::TakeBack => (chart.take_back(), held),
-        Call::Replace(k, bits) => (chart.replace(grammar, weighing, k, bits), held),
-        Call::Try(bits) => match chart.try_append(grammar, weighing, bits) {
-            Ok(trial) => match held {
-                None => (Ok(()), Some(trial)),
-                Some(_) => unreachable(),
-            },
-            Err(why) => (Err(why), held),
-        },
-        Call::Keep => (keep(chart, held), None),
-        Call::Withdraw => (withdraw(chart, held), None),
     }
 }

@@ -36,13 +36,10 @@ fn replay_costs<G: Grammar>(
 {
     let mut chart = Chart::new(slots, grammar);
     let trial = run_anew(&mut chart, grammar, &CostWeighing {}, calls, &mut []);
-    let total = chart.total(grammar);
+    let total = chart.total(grammar).unwrap();
     let answer = tree(&chart, grammar, &CostWeighing {}, records);
     settle(&mut chart, trial);
-    match total {
-        Ok(total) => (total, answer),
-        Err(_) => unreachable(),
-    }
+    (total, answer)
 }
 
 // The total of a chart that stands for the grammar and the weighing. The contract has the theorems about totals and layers.

@@ -1,30 +1,25 @@
-use Rattle.std.proofs.Common.{◌≡◌, [], length, get_or, is_some, Ok, sym, ap, ◌∙◌, ap₂, arith}
-use Rattle.entries.specs.Model.{State, state, terms}
-use Rattle.runs.specs.Runs.{run, answers}
+use Rattle.std.proofs.Common.{length, sym, ap, ◌∙◌, ap₂, subst, rules}
+use Rattle.entries.specs.Model.{Terms, State, state, terms, empty}
+use Rattle.runs.specs.Calls.{RanAnew}
+use Rattle.runs.specs.Runs.{RanAll}
+use Rattle.runs.proofs.Marks.{no_terms, cleared_mark, cleared_stands}
 use Rattle.runs.proofs.calls.run_anew.Goals as goal
 
-pub run_calls-requires : goal.run_calls-requires
-run_calls-requires g c = ap is_some c.begin-held.ensures.held ∙ sym (ap (λ (s : State). s.trial) (c.begin-held.ensures.did (record { own = 0; slots = 0; shown = 0; codes = 0 })).moved)
+pub invariant_of-run : goal.invariant_of-run
+invariant_of-run g c = record { marked = sym (cleared_mark c.begin.ensures.did) }
 
-pub returns : goal.returns
-returns g c =
+pub returns-clause-anew : goal.returns-clause-anew
+returns-clause-anew g c =
     let m = g.G.Grammar.meaning c.args.grammar.now in
-    let cs = c.args.calls.now in
-    let e = c.args.chart.now.entries in
-    let d = c.begin-held.new.chart.entries in
-    let t = terms m e.nonterminals (length c.args.chart.now.slots.cells.now) in
-    let begun = c.begin-held.ensures in
-    let did = begun.did t in
-    let ran = c.run_calls.ensures in
-    let same = ap₂ (terms m) did.own (ap length begun.same) in
-    let none : (state d).entries ≡ [] = ap (λ (s : State). s.entries) did.moved in
+    let did = c.begin.ensures.did no_terms in
+    let slots = c.perform_all.ensures.slots in
+    let last = c.perform_all.new.self.chart.now in
+    let same = ap₂ (terms m) did.own (ap length c.begin.ensures.same) in
+    let Ran : Terms → State → Type 0 = λ t s. RanAll t s c.args.calls.now (state last.entries) c.args.answers.now c.perform_all.new.answers in
+    let anew : RanAnew g.S.Semiring.ring (g.W.Weighing.weight c.args.weighing.now) m c.args.calls.now c.args.chart.now last c.args.answers.now c.perform_all.new.answers =
     record {
-      after = ran.after ∙ ap₂ (λ t x. run t x cs) same did.moved;
-      answered = λ k h j. ran.answered k h j ∙ ap₂ (λ t x. get_or (answers t x cs) k (Ok tt)) same did.moved;
-      beyond = ran.beyond;
-      held = ran.held;
-      stands = ran.stands (λ begin end A some fits. absurd (let nil = ap length none in omega arith));
-      own = ran.own ∙ did.own;
-      long = ran.long ∙ ap length begun.same;
-      named = ran.named ∙ begun.named;
-    }
+      ran = subst (λ t. Ran t empty) same (subst (Ran _) did.moved c.perform_all.ensures.ran);
+      stands = c.perform_all.ensures.stands (cleared_stands _ _ _ _ _ _ c.begin.ensures.did);
+      slots = record { own = slots.own ∙ did.own; long = slots.long ∙ ap length c.begin.ensures.same; named = slots.named ∙ c.begin.ensures.named };
+    } in
+    search rules

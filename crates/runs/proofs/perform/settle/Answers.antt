@@ -1,15 +1,8 @@
-use Rattle.std.proofs.Common.{ap, ◌∙◌}
-use Rattle.entries.specs.Model.{State, state, Terms}
-use Rattle.runs.proofs.Marks.{keep_entries}
+use Rattle.runs.proofs.Marks.{no_terms, kept_entries}
 use Rattle.runs.proofs.perform.settle.Goals as goal
 
-pub returns-in-Some : goal.returns-in-Some
-returns-in-Some g c =
-    let t : Terms = record { own = 0; slots = 0; shown = 0; codes = 0 } in
-    let did = c.keep.ensures.did t in
-    record {
-      entries = ap (λ (s : State). s.entries) did.moved ∙ keep_entries t (state c.args.chart.now.entries);
-      own = did.own;
-      same = c.keep.ensures.same;
-      named = c.keep.ensures.named;
-    }
+pub returns-in-Some-clause-entries : goal.returns-in-Some-clause-entries
+returns-in-Some-clause-entries g c = kept_entries c.keep.ensures.did
+
+pub returns-in-Some-clause-own : goal.returns-in-Some-clause-own
+returns-in-Some-clause-own g c = (c.keep.ensures.did no_terms).own

@@ -1,11 +1,8 @@
 use Rattle.layers.proofs.Stacked.{one_for_one_all, same_weight_all}
 use Rattle.runs.proofs.replay.total_by.Goals as goal
 
-pub returns : goal.returns
-returns g c =
-    record {
-      answer = c.total.ensures.is;
-      total = c.total.ensures.total (g.W.Weighing.weight c.args._weighing.now) c.requires;
-      matches = one_for_one_all;
-      weighs = same_weight_all g.met.S.Semiring.laws;
-    }
+pub returns-clause-matches : goal.returns-clause-matches
+returns-clause-matches g c = one_for_one_all
+
+pub returns-clause-weighs : goal.returns-clause-weighs
+returns-clause-weighs g c = same_weight_all g.met.S.Semiring.laws

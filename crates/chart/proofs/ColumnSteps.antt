@@ -1,11 +1,11 @@
 -- One span more in a column. Assumes nothing.
-use Rattle.std.proofs.Common.{◌≡◌, ℕ, zero, suc, ◌+◌, ◌-◌, ◌<◌, ◌≤◌, cond, eqb, ◌≢◌, ◌⊎◌, List, length, get_or, Some, None, Option, sym, refl, ap, ◌∙◌, subst, ap₂, inl, inr, arith}
+use Rattle.std.proofs.Common.{◌≡◌, ℕ, ◌+◌, ◌<◌, ◌≤◌, cond, eqb, List, Some, None, Option, sym, refl, ap, ◌∙◌, subst, inl, inr, arith}
 use Rattle.std.proofs.lemmas.Bool.{cases_eq}
-use Rattle.semiring.specs.Semirings.{Operations, Laws, sum_below}
+use Rattle.semiring.specs.Semirings.{Operations, Laws}
 use Rattle.grammar.specs.declared.rule.Rule.{Rule}
 use Rattle.grammar.specs.Grammars.{Meaning, Shown}
 use Rattle.chart.specs.Cells.{place, cell_at}
-use Rattle.grammar.specs.Spans.{share, rule_share, shares}
+use Rattle.grammar.specs.Spans.{rule_share, shares}
 use Rattle.semiring.proofs.Sums.{sum_same}
 use Rattle.chart.specs.Columns.{Row, Column, Cleared}
 use Rattle.chart.proofs.Places.{place_narrow, place_later, place_from, place_after, column_from}
@@ -21,13 +21,6 @@ module _ {S : Type 0} {ops : Operations S} (laws : Laws ops) (weigh : Rule → S
     cells = λ b a h1 h2 h3. absurd (omega arith);
     zeros = λ b a h1 h2 h3. cleared.zeros (place n b end a) (column_from n b end a)
         (omega (arith, place_after n b upto end 0 h2, place_from n b end a, place_from n b end n));
-  }
-
-  pub column_after : (xs ys zs : List S) (from : ℕ) → Cleared ops n end upto xs ys → Column ops weigh m bits from upto end ys zs → Column ops weigh m bits from upto end xs zs
-  column_after xs ys zs from cleared column = record {
-    kept = λ q h. column.kept q h ∙ cleared.kept q h;
-    cells = column.cells;
-    zeros = column.zeros;
   }
 
   rule_same : Shown m → (cell cell' : ℕ → ℕ → ℕ → S) (begin a k : ℕ) → Agree laws n begin end cell cell' → (o : Option Rule) → m.rule k ≡ o

@@ -1,8 +1,8 @@
 -- Fewer entries: there is room for them, and the cells still stand. Assumes nothing.
-use Rattle.std.proofs.Common.{◌≡◌, ℕ, ◌+◌, ◌-◌, ◌*◌, ◌<◌, ◌≤◌, min, List, length, take, drop, sym, refl, ap, ◌∙◌, subst, arith, length-take, take-take}
+use Rattle.std.proofs.Common.{◌≡◌, ℕ, ◌+◌, ◌-◌, ◌*◌, ◌<◌, ◌≤◌, List, length, take, drop, sym, ap, ◌∙◌, subst, arith, length-take, take-take}
 use mathlib.Core.HLevel.{is_prop→PathP}
 use native.Mathlib.Bridge.{le_prop}
-use Rattle.std.proofs.lemmas.List.{drop-take, take_all}
+use Rattle.std.proofs.lemmas.List.{drop-take}
 use Rattle.semiring.specs.Semirings.{Operations}
 use Rattle.grammar.specs.declared.rule.Rule.{Rule}
 use Rattle.grammar.specs.Grammars.{Meaning}
@@ -10,7 +10,7 @@ use Rattle.grammar.specs.Derivations.{DerivesEntries}
 use Rattle.grammar.specs.Totals.{TotalOf, weight_of, by}
 use Rattle.grammar.specs.Spans.{span, Stands}
 use Rattle.entries.specs.Spans.{triangle}
-use Rattle.chart.specs.Cells.{cell_at, Room}
+use Rattle.chart.specs.Cells.{cell_at}
 use Rattle.entries.specs.declared.list.Entries.{Entries}
 use Rattle.entries.specs.Model.{state, Front}
 use Rattle.entries.proofs.Listing.{size}

@@ -1,5 +1,5 @@
 -- One entry more, or another in its place: how many there are then, and that there is room for them. Assumes nothing.
-use Rattle.std.proofs.Common.{◌≡◌, ℕ, ◌+◌, ◌*◌, ◌≤◌, List, [], ◌∷◌, ◌++◌, length, Ok, Err, Result, sym, ap, ◌∙◌, subst, arith}
+use Rattle.std.proofs.Common.{◌≡◌, ℕ, ◌+◌, ◌*◌, ◌≤◌, [], ◌∷◌, ◌++◌, length, Ok, sym, ap, ◌∙◌, subst, arith}
 use Rattle.std.proofs.lemmas.List.{length_push, length-set}
 use Rattle.grammar.specs.Grammars.{Meaning, Shown}
 use Rattle.entries.specs.declared.entry.Entry.{Entry}

@@ -1,6 +1,5 @@
 pub mod Places
 pub mod Wiped
-pub mod Adding
 pub mod Rows
 pub mod Gathering
 pub mod Summing

@@ -1,25 +1,18 @@
 -- One column more, filled anew up to entry k. Assumes nothing.
-use Rattle.std.proofs.Common.{◌≡◌, ℕ, ◌+◌, ◌-◌, ◌<◌, ◌≤◌, ◌⊎◌, List, length, get_or, sym, refl, ap, ◌∙◌, subst, inl, inr, arith}
+use Rattle.std.proofs.Common.{◌≡◌, ℕ, ◌+◌, ◌-◌, ◌<◌, List, get_or, sym, ap, ◌∙◌, subst, inl, inr, arith}
 use Rattle.std.proofs.lemmas.Bool.{cases_lt}
-use Rattle.semiring.specs.Semirings.{Operations, Laws, sum_below}
+use Rattle.semiring.specs.Semirings.{Operations, Laws}
 use Rattle.grammar.specs.Grammars.{Meaning, Shown}
 use Rattle.chart.specs.Cells.{place, cell_at}
 use Rattle.grammar.specs.declared.rule.Rule.{Rule}
 use Rattle.grammar.specs.Spans.{shares}
 use Rattle.chart.specs.Columns.{Column, Refilled}
 use Rattle.chart.proofs.Places.{place_narrow}
-use Rattle.chart.proofs.Rows.{Agree}
 use Rattle.chart.proofs.ColumnSteps.{shares_same}
 
 module _ {S : Type 0} {ops : Operations S} (laws : Laws ops) (weigh : Rule → S) (m : Meaning) (shown : Shown m) (es : List ℕ) (k : ℕ) (xs : List S) where
   abbrev n : ℕ
   n = m.nonterminals
-
-  pub refilled_none : Refilled ops weigh m es k (k + 1) xs xs
-  refilled_none = record {
-    kept = λ q h. refl;
-    cells = λ b f a h1 h2 h3 h4. absurd (omega arith);
-  }
 
   pub refilled_more : (end bits : ℕ) (ys zs : List S) → k < end → bits ≡ get_or es (end - 1) 0 → Refilled ops weigh m es k end xs ys
       → Column ops weigh m bits 0 (k + 1) end ys zs → Refilled ops weigh m es k (end + 1) xs zs

@@ -1,5 +1,5 @@
 -- The cells after one entry is replaced. Assumes nothing.
-use Rattle.std.proofs.Common.{◌≡◌, ℕ, ◌+◌, ◌-◌, ◌<◌, ◌≤◌, ◌≢◌, ◌⊎◌, List, [], ◌∷◌, ◌++◌, length, get_or, set, sym, refl, ap, ◌∙◌, subst, inl, inr, arith}
+use Rattle.std.proofs.Common.{◌≡◌, ℕ, ◌+◌, ◌-◌, ◌<◌, ◌≤◌, ◌≢◌, ◌⊎◌, List, length, get_or, set, sym, ap, ◌∙◌, subst, inl, inr, arith}
 use Rattle.std.proofs.lemmas.Bool.{cases_lt, cases_eq}
 use Rattle.std.proofs.lemmas.List.{length-set, get_or-set_other}
 use Rattle.semiring.specs.Semirings.{Operations, Laws}
@@ -9,7 +9,7 @@ use Rattle.grammar.specs.declared.rule.Rule.{Rule}
 use Rattle.grammar.specs.Spans.{shares, Filled, Stands}
 use Rattle.grammar.proofs.Spanning.{filled_stands, stands_filled}
 use Rattle.chart.specs.Columns.{Refilled}
-use Rattle.chart.proofs.Places.{place_narrow, place_later, place_from, place_after, column_from, column_next}
+use Rattle.chart.proofs.Places.{place_narrow, place_later, place_from, column_from, column_next}
 use Rattle.chart.proofs.ColumnSteps.{shares_same}
 
 -- a cell of a span that lies after entry k is outside the columns up to k

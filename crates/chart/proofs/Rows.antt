@@ -1,5 +1,5 @@
 -- One rule more in a span. Assumes nothing.
-use Rattle.std.proofs.Common.{◌≡◌, ℕ, zero, suc, ◌+◌, ◌-◌, ◌<◌, ◌≤◌, Bool, true, false, cond, eqb, ◌≢◌, ◌⊎◌, List, [], ◌∷◌, length, get_or, set, Some, None, fold, Option, sym, refl, ap, ◌∙◌, subst, ap₂, inl, inr, add-one, arith, eq-eqb, ne_eqb}
+use Rattle.std.proofs.Common.{◌≡◌, ℕ, zero, suc, ◌+◌, ◌-◌, ◌<◌, cond, ◌≢◌, List, [], ◌∷◌, length, Some, None, fold, Option, sym, refl, ap, ◌∙◌, subst, ap₂, inl, inr, add-one, arith, eq-eqb, ne_eqb}
 use mathlib.Core.Path.{subst⁻¹}
 use Rattle.std.proofs.lemmas.List.{get_or-set_same, get_or-set_other, length-set}
 use Rattle.std.proofs.lemmas.List.Sums.{fold_push}
@@ -14,8 +14,7 @@ use Rattle.semiring.proofs.Sums.{sum_more, sum_none, sum_same}
 use Rattle.chart.specs.Cells.{place, cell_at, added, cut_product, cut_sum, Room, Names}
 use Rattle.chart.specs.Columns.{with_rule, with_any, Row}
 use Rattle.chart.specs.Gathers.{pushed, rules_below}
-use Rattle.chart.proofs.Places.{place_narrow, place_later, place_from, place_after, inside}
-use Rattle.chart.proofs.Adding.{other_cell}
+use Rattle.chart.proofs.Places.{place_narrow, place_from, place_after, inside}
 
 -- the names of a declared expansion
 pub names_of : (m : Meaning) (x : Expansion) → Declared m x → Names m.nonterminals x
@@ -113,7 +112,7 @@ module _ {S : Type 0} {ops : Operations S} (laws : Laws ops) where
                   ∙ ap (λ t. cond t u ops.zero) (eq-eqb r.lhs a same) ∙ uv)
               | inr other ↦
                   same_more a (cell_at ops n (added ops n ys begin end r.lhs v) begin end a)
-                  (other_cell laws n ys begin end r.lhs v begin end a
+                  (get_or-set_other ys at (place n begin end a) _ ops.zero
                   (λ d. other (omega (arith, d, place_from n begin end r.lhs, place_from n begin end a))))
                   l
                   (ap (rule_share ops (cell_at ops n xs) weigh bits begin end a) e

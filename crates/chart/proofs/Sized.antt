@@ -1,9 +1,9 @@
 -- A list of 64 sums is no longer than memory, where more than 64 of their values are not. Assumes nothing.
-use Rattle.std.proofs.Common.{ℕ, zero, suc, ◌+◌, ◌-◌, ◌*◌, ◌%◌, ◌<◌, ◌≤◌, max, sym, subst, arith}
+use Rattle.std.proofs.Common.{ℕ, ◌+◌, ◌-◌, ◌*◌, ◌%◌, ◌<◌, ◌≤◌, max, sym, subst, arith}
 use Rattle.std.proofs.Math.Nat.{mod-lt, max-le, le-max_left, mul-le-mul_right}
 use mir.Syntax.{Width, w8, w16, w32, w64, w128, Ty}
 use mir.Val.{bytes}
-use prog.Memory.{size, align, up, pad}
+use prog.Memory.{size, align, up}
 use prog.Align.{align-bytes, align_w, align_pos}
 
 bytes_few : (w : Width) → bytes w ≤ 16

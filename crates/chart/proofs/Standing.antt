@@ -1,8 +1,8 @@
 -- Filling one column more keeps the cells filled. Assumes nothing.
-use Rattle.std.proofs.Common.{◌≡◌, ℕ, ◌+◌, ◌-◌, ◌<◌, ◌≤◌, ◌⊎◌, List, [], ◌∷◌, ◌++◌, length, get_or, sym, refl, ap, ◌∙◌, subst, inl, inr, arith}
+use Rattle.std.proofs.Common.{◌≡◌, ℕ, ◌+◌, ◌-◌, ◌<◌, ◌≤◌, List, [], ◌∷◌, ◌++◌, length, get_or, sym, ap, ◌∙◌, subst, inl, inr, arith}
 use Rattle.std.proofs.lemmas.Bool.{cases_lt}
 use Rattle.std.proofs.lemmas.List.{length_push, get_or_push, get_or_append_left}
-use Rattle.semiring.specs.Semirings.{Operations, Laws, sum_below}
+use Rattle.semiring.specs.Semirings.{Operations, Laws}
 use Rattle.grammar.specs.Grammars.{Meaning, Shown}
 use Rattle.chart.specs.Cells.{place, cell_at}
 use Rattle.grammar.specs.declared.rule.Rule.{Rule}
@@ -16,9 +16,6 @@ use Rattle.chart.proofs.ColumnSteps.{shares_same}
 module _ {S : Type 0} {ops : Operations S} (laws : Laws ops) (weigh : Rule → S) (m : Meaning) (shown : Shown m) where
   abbrev n : ℕ
   n = m.nonterminals
-
-  pub filled_none : (xs : List S) → Filled ops weigh m [] (cell_at ops n xs)
-  filled_none xs begin end a h1 h2 h3 = absurd (omega arith)
 
   pub filled_more : (es : List ℕ) (bits : ℕ) (xs ys : List S) → Filled ops weigh m es (cell_at ops n xs)
       → Column ops weigh m bits 0 (length es + 1) (length es + 1) xs ys → Filled ops weigh m (es ++ (bits ∷ [])) (cell_at ops n ys)

@@ -1,11 +1,10 @@
 -- Known sums stay right while the span is filled. Assumes nothing.
 use Rattle.std.proofs.Common.{ℕ, ◌<◌, List, sym, ◌∙◌, subst, arith}
-use Rattle.std.proofs.lemmas.List.{length-set}
+use Rattle.std.proofs.lemmas.List.{length-set, get_or-set_other}
 use Rattle.semiring.specs.Semirings.{Operations, Laws}
-use Rattle.chart.specs.Cells.{cell_at, added, Room}
+use Rattle.chart.specs.Cells.{place, cell_at, added, Room}
 use Rattle.chart.specs.Sums.{Known}
 use Rattle.chart.specs.declared.sums.Sum.{Sum}
-use Rattle.chart.proofs.Adding.{other_cell}
 use Rattle.chart.proofs.Places.{place_narrow, place_later}
 use Rattle.chart.proofs.Rows.{Agree, cut_sum_same}
 
@@ -14,8 +13,8 @@ module _ {S : Type 0} {ops : Operations S} (laws : Laws ops) where
     -- what is added to a cell of (begin, end) changes no cell of the narrower spans inside it
     agree_added : (xs : List S) (a : ℕ) (v : S) → a < n → Agree laws n begin end (cell_at ops n xs) (cell_at ops n (added ops n xs begin end a v))
     agree_added xs a v ha k c l1 l2 hc = (
-      sym (other_cell laws n xs begin end a v begin k c (λ e. omega (arith, e, place_narrow n begin k c begin end a l1 l2 hc))),
-      sym (other_cell laws n xs begin end a v k end c (λ e. omega (arith, e, place_later n begin k end a c l1 ha))),
+      sym (get_or-set_other xs (place n begin end a) (place n begin k c) _ ops.zero (λ e. omega (arith, e, place_narrow n begin k c begin end a l1 l2 hc))),
+      sym (get_or-set_other xs (place n begin end a) (place n k end c) _ ops.zero (λ e. omega (arith, e, place_later n begin k end a c l1 ha))),
     )
 
     pub known_added : (a : ℕ) (v : S) (xs : List S) (sums : List (Sum S)) → a < n

@@ -1,12 +1,12 @@
 -- The total of a chart that stands is that of its derivations from all starts. Assumes nothing.
-use Rattle.std.proofs.Common.{◌≡◌, ℕ, ◌<◌, ◌≤◌, Bool, true, false, cond, eqb, ◌≢◌, List, [], ◌∷◌, length, IfOk, Ok, Err, Result, sym, refl, ap, ◌∙◌, subst, arith, eq-eqb, ne_eqb, MatchResult}
+use Rattle.std.proofs.Common.{◌≡◌, ℕ, ◌<◌, Bool, true, false, cond, eqb, ◌≢◌, List, [], ◌∷◌, length, IfOk, Ok, Err, Result, sym, ap, ◌∙◌, subst, arith, eq-eqb, ne_eqb, MatchResult}
 use Rattle.semiring.specs.Semirings.{Operations, Laws}
 use Rattle.grammar.specs.declared.refusal.Refusal.{Refusal}
 use Rattle.grammar.specs.declared.refusal.Refusal.TheVariants.{OtherGrammar}
 use Rattle.grammar.specs.declared.rule.Rule.{Rule}
 use Rattle.grammar.specs.Grammars.{Meaning, Shown}
 use Rattle.grammar.specs.Derivations.{DerivesEntries, EntriesFromStarts}
-use Rattle.grammar.specs.Totals.{TotalOf, weight_of, by}
+use Rattle.grammar.specs.Totals.{TotalOf, weight_of}
 use Rattle.grammar.specs.Spans.{start_sum, Stands}
 use Rattle.grammar.proofs.Closure.{total_none}
 use Rattle.grammar.proofs.Shapes.{entries_length, some_leaf}
@@ -15,7 +15,6 @@ use Rattle.grammar.proofs.Starts.{total_starts}
 use Rattle.entries.specs.declared.list.Entries.{Entries}
 use Rattle.chart.specs.Cells.{cell_at}
 use Rattle.entries.specs.Model.{state}
-use Rattle.chart.specs.Stands.{ChartStands}
 use Rattle.chart.specs.Reads.{whole_total, total_answer}
 use Rattle.entries.proofs.Listing.{size}
 

@@ -1,5 +1,5 @@
 -- Which slot holds which cell. Assumes nothing.
-use Rattle.std.specs.Prelude.{ℕ, ◌+◌, ◌-◌, ◌*◌, ◌/◌, ◌<◌, ◌≤◌, List, slice_index_or, slice_set}
+use Rattle.std.specs.Prelude.{ℕ, ◌+◌, ◌-◌, ◌*◌, ◌<◌, ◌≤◌, List, slice_index_or, slice_set}
 use Rattle.grammar.specs.declared.rule.Expansion.{Expansion}
 use Rattle.grammar.specs.declared.rule.Expansion.TheVariants.{Pair, Leaf}
 use Rattle.entries.specs.Spans.{triangle}

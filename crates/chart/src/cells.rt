@@ -1,5 +1,5 @@
 // The slots as the cells of a span and of the spans inside it.
-ghost use Rattle.std.specs.Prelude.{◌≡◌, ◌<◌, length};
+ghost use Rattle.std.specs.Prelude.{◌≡◌, ◌<◌, ◌≤◌, length};
 ghost use Rattle.chart.specs.Cells.{place, cell_at, Room};
 
 use super::span::Span;
@@ -28,5 +28,22 @@ impl<'a, S: Semiring> Cells<'a, S> {
         ensures { result ≡ cell_at S.ring self.now.span.cells self.now.slots.now self.now.span.begin self.now.span.end a }
     {
         self.slots[self.place(a)]
+    }
+
+    // The value of the cell of `a` and a span inside this one.
+    pub(crate) fn inner(&self, begin: usize, end: usize, a: usize) -> S
+        requires span { (begin < end) × (end ≤ self.now.span.end) }
+        requires named { a < self.now.span.cells }
+        ensures { result ≡ cell_at S.ring self.now.span.cells self.now.slots.now begin end a }
+    {
+        let part = Cells {
+            slots: self.slots,
+            span: Span {
+                begin,
+                end,
+                cells: self.span.cells,
+            },
+        };
+        part.value(a)
     }
 }

@@ -1,5 +1,5 @@
 // A span of entries, and which slots its cells are in.
-ghost use Rattle.std.specs.Prelude.{◌≡◌, ◌+◌, ◌-◌, ◌<◌, ◌≤◌, ◌==◌};
+ghost use Rattle.std.specs.Prelude.{◌≡◌, ◌+◌, ◌<◌, ◌≤◌, ◌==◌};
 ghost use Rattle.chart.specs.Cells.{place};
 
 // The entries from `begin` to before `end`, with so many cells: one for each nonterminal.
@@ -20,13 +20,6 @@ impl Span {
         ensures { result ≡ place self.cells self.begin self.end a }
     {
         (self.end * (self.end - 1) / 2 + self.begin) * self.cells + a
-    }
-
-    // How many cuts it has: places between two of its entries.
-    pub(crate) fn cuts(self) -> usize
-        ensures { result ≡ self.end - (self.begin + 1) }
-    {
-        self.end - self.begin - 1
     }
 
     // Whether it is one entry.

@@ -65,32 +65,19 @@ fn with_cut<S: Semiring>(sum: S, left: S, right: S) -> S
 }
 
 impl<'a, S: Semiring> Cells<'a, S> {
-    // The sum over the cuts of the span of the left cell times the right cell, with running slots of the two.
+    // The sum over the cuts of the span of the left cell times the right cell.
     fn cut_sum(&self, left: usize, right: usize) -> S
         requires { (left < self.now.span.cells) × (right < self.now.span.cells) }
         ensures { result ≡ cells.cut_sum S.ring (cells.cell_at S.ring self.now.span.cells self.now.slots.now) self.now.span.begin self.now.span.end left right }
     {
-        let Span { begin, end, cells } = self.span;
+        let Span { begin, end, .. } = self.span;
         let mut sum = S::zero();
-        if self.span.is_single() {
-            return sum;
-        }
-        let mut l = Span {
-            begin,
-            end: begin + 1,
-            cells,
-        }
-        .slot(left);
-        let mut r = Span {
-            begin: begin + 1,
-            end,
-            cells,
-        }
-        .slot(right);
-        for k in 0..self.span.cuts() {
-            sum = with_cut(sum, self.slots[l], self.slots[r]);
-            l += (begin + 1 + k) * cells;
-            r += cells;
+        for cut in begin + 1..end {
+            sum = with_cut(
+                sum,
+                self.inner(begin, cut, left),
+                self.inner(cut, end, right),
+            );
         }
         sum
     }

@@ -1,9 +1,7 @@
-use Rattle.std.proofs.Common.{◌≡◌, ℕ, ◌+◌, ◌-◌, ◌*◌, ◌<◌, ◌≤◌, ◌⊎◌, length, take, drop, sym, ap, ◌∙◌, inl, inr, arith, rules}
-use borrow.Rule.Slice.PartMut.{put_mid}
+use Rattle.std.proofs.Common.{◌≡◌, ◌+◌, ◌-◌, ◌*◌, ◌≤◌, length, ◌∙◌, inl, inr, arith, rules}
 use Rattle.std.proofs.lemmas.List.{length-take, length-drop}
 use Rattle.chart.specs.Cells.{place}
-use Rattle.chart.specs.Columns.{Cleared}
-use Rattle.chart.proofs.Places.{column_size, column_room}
+use Rattle.chart.proofs.Places.{column_size, column_within}
 use Rattle.chart.proofs.Wiped.{wiped_before, wiped_inside, wiped_after}
 use Rattle.chart.proofs.columns.clear_column.Goals as goal
 
@@ -11,14 +9,14 @@ pub overflow_add-past : goal.overflow_add-past
 overflow_add-past g c =
     let s = c.args.span in
     let start : c.slot-first.result ≡ place s.cells 0 s.end 0 = cc in
-    omega (arith, column_size s.cells c.args.upto s.end, column_room s.cells c.args.upto s.end _ c.requires.part c.requires.room)
+    omega (arith, column_within s.cells c.args.upto s.end _ c.requires.part c.requires.room)
 
 pub offset_bounds-slots-first : goal.offset_bounds-slots-first
 offset_bounds-slots-first g c =
     let s = c.args.span in
     let start : c.slot-first.result ≡ place s.cells 0 s.end 0 = cc in
     let within : c.slot-first.result + c.args.upto * s.cells ≤ length c.args.slots.now =
-    omega (arith, column_size s.cells c.args.upto s.end, column_room s.cells c.args.upto s.end _ c.requires.part c.requires.room) in
+    omega (arith, column_within s.cells c.args.upto s.end _ c.requires.part c.requires.room) in
     search rules
 
 pub slice_bounds-wipe-end : goal.slice_bounds-wipe-end
@@ -26,7 +24,7 @@ slice_bounds-wipe-end g c =
     let s = c.args.span in
     let start : c.slot-first.result ≡ place s.cells 0 s.end 0 = cc in
     let within : c.slot-first.result + c.args.upto * s.cells ≤ length c.args.slots.now =
-    omega (arith, column_size s.cells c.args.upto s.end, column_room s.cells c.args.upto s.end _ c.requires.part c.requires.room) in
+    omega (arith, column_within s.cells c.args.upto s.end _ c.requires.part c.requires.room) in
     search rules
 
 pub returns : goal.returns
@@ -39,7 +37,7 @@ returns g c =
     let ys = c.wipe.new.slots in
     let start : a ≡ place s.cells 0 s.end 0 = cc in
     let size = column_size s.cells c.args.upto s.end in
-    let within : a + k ≤ length xs = omega (arith, size, column_room s.cells c.args.upto s.end _ c.requires.part c.requires.room) in
+    let within : a + k ≤ length xs = omega (arith, column_within s.cells c.args.upto s.end _ c.requires.part c.requires.room) in
     let long : length ys ≡ k = c.wipe.auto.slots ∙ simp (length-take, length-drop) (omega arith) in
     record {
       kept = λ q at. elim at [

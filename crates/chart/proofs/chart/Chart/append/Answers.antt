@@ -1,4 +1,4 @@
-use Rattle.std.proofs.Common.{◌≡◌, ◌+◌, ◌≤◌, length, Ok, Err, sym, refl, ap, ◌∙◌, subst, arith, rules}
+use Rattle.std.proofs.Common.{◌≡◌, ◌+◌, ◌≤◌, length, Ok, Err, sym, refl, ◌∙◌, subst, arith, rules}
 use Rattle.grammar.specs.Spans.{Stands}
 use Rattle.grammar.specs.Totals.{by}
 use Rattle.entries.specs.declared.call.Call.TheVariants.{Append}

@@ -1,5 +1,4 @@
-use Rattle.std.proofs.Common.{◌≡◌, ◌+◌, ◌<◌, ◌≤◌, length, set, Ok, Err, sym, refl, ap, ◌∙◌, subst, arith, rules}
-use Rattle.std.proofs.lemmas.List.{length-set}
+use Rattle.std.proofs.Common.{◌≡◌, ◌+◌, ◌<◌, ◌≤◌, length, set, Err, sym, refl, ap, ◌∙◌, subst, rules}
 use Rattle.grammar.specs.Spans.{Stands}
 use Rattle.grammar.specs.Totals.{by}
 use Rattle.entries.specs.declared.call.Call.TheVariants.{Replace}

@@ -1,10 +1,10 @@
-use Rattle.std.proofs.Common.{◌≡◌, ℕ, cond, Ok, Err, Result, sym, refl, ap, ◌∙◌, ap₂, arith}
+use Rattle.std.proofs.Common.{◌≡◌, ℕ, cond, Ok, Result, sym, ◌∙◌, ap₂, arith}
 use Rattle.semiring.specs.Semirings.{sum_below}
 use Rattle.semiring.proofs.Sums.{sum_none, sum_more}
 use Rattle.grammar.specs.declared.refusal.Refusal.{Refusal}
 use Rattle.grammar.specs.Totals.{by}
 use Rattle.chart.specs.Cells.{cell_at}
-use Rattle.chart.specs.Reads.{whole_total, total_answer}
+use Rattle.chart.specs.Reads.{total_answer}
 use Rattle.chart.proofs.Totalling.{answer_stands, answered, none_whole, some_whole}
 use Rattle.chart.proofs.chart.Chart.total.Goals as goal
 

@@ -1,7 +1,7 @@
 use Rattle.std.proofs.Common.{subst}
 use Rattle.grammar.specs.Totals.{by}
 use Rattle.chart.specs.Columns.{Cleared}
-use Rattle.chart.proofs.ColumnSteps.{column_none, column_after}
+use Rattle.chart.proofs.ColumnSteps.{column_none}
 use Rattle.chart.proofs.filling.Filling.fill_with.Goals as goal
 
 pub fill_rows-requires-clause-zero : goal.fill_rows-requires-clause-zero

@@ -1,4 +1,4 @@
-use Rattle.std.proofs.Common.{◌≡◌, arith, ap, ◌∙◌}
+use Rattle.std.proofs.Common.{◌≡◌, arith}
 use Rattle.chart.specs.Gathers.{pushed, at_hand}
 use Rattle.chart.proofs.Gathering.{gathers_none, gathers_more}
 use Rattle.chart.proofs.gathered.Gathered.of.Goals as goal

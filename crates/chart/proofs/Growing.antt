@@ -1,15 +1,12 @@
 -- One entry more, or another in its place: how many there are then, and that there is room for them. Assumes nothing.
-use Rattle.std.proofs.Common.{◌≡◌, ℕ, ◌+◌, ◌*◌, ◌≤◌, [], ◌∷◌, ◌++◌, length, Ok, sym, ap, ◌∙◌, subst, arith}
+use Rattle.std.proofs.Common.{◌≡◌, ℕ, ◌+◌, ◌*◌, ◌≤◌, [], ◌∷◌, ◌++◌, length, Ok, sym, ap, ◌∙◌, subst}
 use Rattle.std.proofs.lemmas.List.{length_push, length-set}
-use Rattle.grammar.specs.Grammars.{Meaning, Shown}
-use Rattle.entries.specs.declared.entry.Entry.{Entry}
 use Rattle.entries.specs.declared.list.Entries.{Entries}
 use Rattle.entries.specs.declared.call.Call.{Call}
 use Rattle.entries.specs.declared.call.Call.TheVariants.{Append, Replace}
 use Rattle.entries.specs.Spans.{triangle}
-use Rattle.entries.specs.Model.{State, state, Terms, Added, after, does, Did}
+use Rattle.entries.specs.Model.{State, state, Terms, after, does, Did}
 use Rattle.entries.proofs.Listing.{size}
-use Rattle.chart.specs.Cells.{Room}
 
 -- the state after an accepted call
 pub did_move : (t : Terms) (e f : Entries) (call : Call) → Did t e call (Ok tt) f → state f ≡ does (state e) call
@@ -22,16 +19,6 @@ module _ (t : Terms) (e f : Entries) (bits : ℕ) (did : Did t e (Append bits) (
 
   pub one_more : f.count ≡ e.count + 1
   one_more = sym (size f) ∙ ap length more_entries ∙ length_push (state e).entries bits ∙ ap (λ k. k + 1) (size e)
-
-  -- there is room for the spans of one entry more
-  pub room_more : (m : Meaning) (slots : ℕ) (entry : Entry) → Shown m → Added m e.nonterminals slots e.count bits entry → Room m.nonterminals f.count slots
-  room_more m slots entry shown added =
-      let next : e.count + 2 ≡ f.count + 1 = omega (arith, one_more) in
-      record {
-        few = f.few;
-        narrow = shown.few;
-        fits = subst (λ k. triangle k * m.nonterminals ≤ slots) next (subst (λ n. triangle (e.count + 2) * n ≤ slots) (sym added.same) added.room);
-      }
 
 -- a replaced entry leaves as many as there were
 pub same_many : (t : Terms) (e f : Entries) (k bits : ℕ) → Did t e (Replace k bits) (Ok tt) f → f.count ≡ e.count

@@ -4,7 +4,7 @@ use Rattle.std.proofs.lemmas.List.{take_all}
 use Rattle.grammar.specs.declared.refusal.Refusal.{Refusal}
 use Rattle.entries.specs.declared.list.Entries.{Entries}
 use Rattle.entries.specs.declared.call.Call.{Call}
-use Rattle.entries.specs.declared.call.Call.TheVariants.{Clear, TakeBack, Keep, Withdraw}
+use Rattle.entries.specs.declared.call.Call.TheVariants.{TakeBack, Withdraw}
 use Rattle.entries.specs.Model.{State, state, Terms, after, does, Did, Front}
 
 -- a call that adds nothing leaves a front: an accepted one the first k entries, a refused one all
@@ -18,21 +18,9 @@ front_of t e f call (Err why) k is did =
 any : Terms
 any = record { own = 0; slots = 0; shown = 0; codes = 0 }
 
--- clear leaves none, take back and withdraw all but the last, and keep all
-pub cleared : (e f : Entries) → ((t : Terms) → Did t e Clear (Ok tt) f) → Front e f
-cleared e f did = front_of any e f Clear (Ok tt) 0 refl (did any)
-
+-- take back and withdraw leave all but the last
 pub taken_back : (e f : Entries) (r : Result (Unit {0}) Refusal) → ((t : Terms) → Did t e TakeBack r f) → Front e f
 taken_back e f r did = front_of any e f TakeBack r (length (state e).entries - 1) refl (did any)
 
 pub withdrawn : (e f : Entries) (r : Result (Unit {0}) Refusal) → ((t : Terms) → Did t e Withdraw r f) → Front e f
 withdrawn e f r did = front_of any e f Withdraw r (length (state e).entries - 1) refl (did any)
-
-pub kept : (e f : Entries) (r : Result (Unit {0}) Refusal) → ((t : Terms) → Did t e Keep r f) → Front e f
-kept e f r did = front_of any e f Keep r (length (state e).entries) (sym (take_all (length (state e).entries) (state e).entries (omega arith))) (did any)
-
--- what did not change is a front of itself
-pub unmoved : (e f : Entries) → f ≡ e → Front e f
-unmoved e f same =
-    let es = (state e).entries in
-    record { k = length es; are = ap (λ x. (state x).entries) same ∙ sym (take_all (length es) es (omega arith)); own = ap (λ x. x.nonterminals) same }

@@ -1,9 +1,9 @@
 -- Accepted and refused calls, in the model's words. Assumes nothing.
-use Rattle.std.proofs.Common.{◌≡◌, ℕ, Bool, List, length, Ok, Err, Result, sym, ap, ◌∙◌, subst, MatchResult}
+use Rattle.std.proofs.Common.{◌≡◌, ℕ, length, Ok, Err, Result, sym, ap, ◌∙◌, subst, MatchResult}
 use Rattle.grammar.specs.declared.refusal.Refusal.{Refusal}
 use Rattle.entries.specs.declared.list.Entries.{Entries}
 use Rattle.entries.specs.declared.call.Call.{Call}
-use Rattle.entries.specs.Model.{State, state, Terms, Test, verdict, entry_tests, replace_tests, answer, after, does, step, Did}
+use Rattle.entries.specs.Model.{state, Terms, verdict, replace_tests, answer, after, does, Did}
 use Rattle.entries.proofs.Listing.{size}
 
 -- an accepted call took e to f
@@ -14,13 +14,10 @@ accepted t e f call said moved own = record { answered = sym said; moved = moved
 pub refused : (t : Terms) (e : Entries) (call : Call) (why : Refusal) → answer t (state e) call ≡ Err why → Did t e call (Err why) e
 refused t e call why said = record { answered = sym said; moved = sym (ap (λ r. after r (state e) call) said); own = λ i. e.nonterminals }
 
--- the tests of a new entry look at how many entries are in use
-pub entry_verdict : (t : Terms) (e : Entries) (bits : ℕ) (r : Result (Unit {0}) Refusal) → verdict (entry_tests t e.count e.trial bits) ≡ r → verdict (entry_tests t (length (state e).entries) e.trial bits) ≡ r
-entry_verdict t e bits r said = ap (λ n. verdict (entry_tests t n e.trial bits)) (size e) ∙ said
-
 -- what a call did where it was refused
 pub on_err : {T : Type 0} (P : T → Type 0) (Q : Refusal → Type 0) (r : Result T Refusal) (why : Refusal) → r ≡ Err why → Q why → MatchResult r P Q
 on_err P Q r why is q = subst (λ x. MatchResult x P Q) (sym is) q
 
+-- the tests of an entry at a place look at how many entries are in use
 pub replace_verdict : (t : Terms) (e : Entries) (k bits : ℕ) (r : Result (Unit {0}) Refusal) → verdict (replace_tests t e.count e.trial k bits) ≡ r → verdict (replace_tests t (length (state e).entries) e.trial k bits) ≡ r
 replace_verdict t e k bits r said = ap (λ n. verdict (replace_tests t n e.trial k bits)) (size e) ∙ said

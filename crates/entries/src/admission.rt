@@ -24,6 +24,7 @@ pub(crate) fn proper_entry(bits: u32, codes: u32) -> Result<Entry, Refusal>
 }
 
 // How many spans end before `end`.
+#[tactic(auto, unfolding(crate::specs::Spans::triangle))]
 fn spans_before(end: usize) -> usize
     requires { (0 < end) × (end ≤ 66) }
     ensures is { result ≡ triangle end }

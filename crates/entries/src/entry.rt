@@ -36,6 +36,7 @@ impl Entry {
     }
 
     // Whether the code is in the set.
+    #[tactic(auto, unfolding(grammar::specs::Derivations::has))]
     pub fn has(self, code: u8) -> bool
         ensures { result ≡ has_code self.bits code }
     {

@@ -1,4 +1,4 @@
-use Rattle.std.proofs.Common.{◌≡◌, ◌^◌, ◌<◌, ◌≤◌, not, ◌&&◌, sym, ap, ◌∙◌, arith, pow_mono, rules}
+use Rattle.std.proofs.Common.{◌^◌, ◌<◌, ◌≤◌, arith, pow_mono, rules}
 use Rattle.entries.proofs.admission.is_improper.Goals as goal
 
 -- with 32 codes or more, every bit is one of a code

@@ -1,11 +1,7 @@
-use Rattle.std.proofs.Common.{◌≡◌, ◌/◌, ◌%◌, ◌^◌, ◌<◌, ◌≤◌, eqb, sym, ap, ◌∙◌, arith, pow_mono, le-ltb}
+use Rattle.std.proofs.Common.{◌^◌, ◌<◌, ◌≤◌, eqb, sym, ap, ◌∙◌, arith, pow_mono, le-ltb, ◌%◌}
 use native.Mathlib.Nat.{div-eq_of_lt}
 use Rattle.grammar.specs.Derivations.{has}
 use Rattle.entries.proofs.entry.Entry.has.Goals as goal
-
-pub returns-then-code-lt32 : goal.returns-then-code-lt32
-unfolding has
-returns-then-code-lt32 c = ap (λ b. eqb b 1) c.bit.ensures
 
 -- no code from 32 on is in a set of 32 bits
 pub returns-else-code-lt32 : goal.returns-else-code-lt32

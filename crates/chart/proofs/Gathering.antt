@@ -6,7 +6,7 @@ use Rattle.std.proofs.ByRecursion.{All-push}
 use Rattle.grammar.specs.declared.rule.Rule.{Rule}
 use Rattle.grammar.specs.Grammars.{Meaning, Shown}
 use Rattle.chart.specs.declared.gathered.Gathered.{Gathered}
-use Rattle.chart.specs.Gathers.{Named, pushed, rules_below, at_hand, Gathers}
+use Rattle.chart.specs.Gathers.{Named, pushed, rules_below, Gathers}
 use Rattle.chart.proofs.Rows.{names_of}
 
 module _ (m : Meaning) where
@@ -18,14 +18,14 @@ module _ (m : Meaning) where
   unfolding rules_below
   below_more k = ap (rules_below m) (add-one k)
 
-  pub gathers_none : (g : Gathered) → at_hand g ≡ [] → g.next ≡ 0 → Gathers m g
+  pub gathers_none : (g : Gathered) → g.rules.items ≡ [] → g.next ≡ 0 → Gathers m g
   gathers_none g rules next = record {
     below = omega arith;
     rules = rules ∙ sym (ap (rules_below m) next ∙ below_none);
   }
 
   -- one number more
-  pub gathers_more : (g g' : Gathered) → at_hand g' ≡ pushed (at_hand g) (m.rule g.next) → g'.next ≡ g.next + 1 → g.next < m.bound → Gathers m g → Gathers m g'
+  pub gathers_more : (g g' : Gathered) → g'.rules.items ≡ pushed g.rules.items (m.rule g.next) → g'.next ≡ g.next + 1 → g.next < m.bound → Gathers m g → Gathers m g'
   gathers_more g g' rules next within before = record {
     below = omega arith;
     rules = rules ∙ ap (λ l. pushed l (m.rule g.next)) before.rules ∙ sym (ap (rules_below m) next ∙ below_more g.next);
@@ -43,6 +43,6 @@ module _ (m : Meaning) where
   named_below shown zero = tt
   named_below shown (suc k) = named_more shown k (rules_below m k) (m.rule k) refl (named_below shown k)
 
-  pub named_at_hand : Shown m → (g : Gathered) {n : ℕ} → n ≡ m.nonterminals → Gathers m g → AllByRecursion (Named n) (at_hand g)
+  pub named_at_hand : Shown m → (g : Gathered) {n : ℕ} → n ≡ m.nonterminals → Gathers m g → AllByRecursion (Named n) g.rules.items
   named_at_hand shown g own gathers =
-      subst⁻¹ (λ k. AllByRecursion (Named k) (at_hand g)) own (subst⁻¹ (AllByRecursion (Named m.nonterminals)) gathers.rules (named_below shown g.next))
+      subst⁻¹ (λ k. AllByRecursion (Named k) g.rules.items) own (subst⁻¹ (AllByRecursion (Named m.nonterminals)) gathers.rules (named_below shown g.next))

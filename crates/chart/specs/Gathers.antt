@@ -1,5 +1,5 @@
 -- The rules of a grammar, gathered into a list. Assumes nothing.
-use Rattle.std.specs.Prelude.{◌≡◌, ℕ, zero, suc, ◌<◌, ◌≤◌, List, [], ◌∷◌, ◌++◌, take, Some, None, Option}
+use Rattle.std.specs.Prelude.{◌≡◌, ℕ, zero, suc, ◌<◌, ◌≤◌, List, [], ◌∷◌, ◌++◌, Some, None, Option}
 use Rattle.grammar.specs.declared.rule.Rule.{Rule}
 use Rattle.grammar.specs.Grammars.{Meaning}
 use Rattle.chart.specs.Cells.{Names}
@@ -19,11 +19,7 @@ unfoldable pub rules_below : Meaning → ℕ → List Rule
 rules_below m zero = []
 rules_below m (suc k) = pushed (rules_below m k) (m.rule k)
 
--- the rules at hand
-abbrev pub at_hand : Gathered → List Rule
-at_hand g = take g.count g.list
-
 -- the rules of the numbers below `next` are at hand
 pub record Gathers (m : Meaning) (g : Gathered) : Type 0 where
   pub below : g.next ≤ m.bound
-  pub rules : at_hand g ≡ rules_below m g.next
+  pub rules : g.rules.items ≡ rules_below m g.next

@@ -61,7 +61,7 @@ impl<'a, G: Grammar, W: Weighing> Filling<'a, G, W> {
         requires part { upto ≤ self.now.span.end }
         ensures { columns.Column W.Value.Semiring.ring (by (W.weight self.now.weighing.now)) (G.meaning self.now.grammar.now) self.now.last.bits 0 upto self.now.span.end slots.old slots.new }
     {
-        let used = note_pairs(sums, self.gathered.rules());
+        let used = note_pairs(sums, self.gathered.rules.as_slice());
         clear_column(slots, self.span, upto);
         self.fill_rows(slots, &mut sums[0..used], upto);
     }

@@ -1,13 +1,50 @@
-// The rules of the numbers below `next`, in order: the first `count` of the list.
-ghost use Rattle.std.specs.Prelude.{◌≡◌, ◌≤◌, length};
+// The rules of a grammar, asked for once and then at hand for each span.
+ghost use Rattle.std.specs.Prelude.{◌≡◌, ◌+◌, ◌-◌, ◌^◌, ◌<◌, MatchResult};
+ghost use Rattle.chart.specs.Gathers.{pushed, Gathers};
 
-use grammar::rule::Rule;
+use grammar::grammar::Grammar;
+use grammar::rule::{Expansion, Rule};
+use lists::list::{Full, List};
 
+// The rules of the numbers below `next`, in order.
 #[derive(Drop)]
 pub(crate) struct Gathered {
-    pub(crate) list: [Rule; 256],
-    pub(crate) count: usize,
+    pub(crate) rules: List<Rule, 256>,
     pub(crate) next: u32,
-    ghost long: { length list ≡ 256 },
-    ghost few: { count ≤ 256 },
+}
+
+impl Gathered {
+    // Takes in the rule that there may be at the number `next`; where there is no room for it, all stays.
+    fn take_next<G: Grammar>(&mut self, grammar: &G) -> Result<(), Full>
+        requires { self.old.next < 2 ^ 32 - 1 }
+        ensures { MatchResult result (λ _. (self.new.rules.items ≡ pushed self.old.rules.items ((G.meaning grammar.now).rule self.old.next)) × (self.new.next ≡ self.old.next + 1)) (λ _. self.new ≡ self.old) }
+    {
+        if let Some(rule) = grammar.rule(self.next) {
+            self.rules.push(rule)?;
+        }
+        self.next += 1;
+        Ok(())
+    }
+
+    // The rules of the first numbers: of as many as there is room for.
+    pub(crate) fn of<G: Grammar>(grammar: &G) -> Gathered
+        ensures { Gathers (G.meaning grammar.now) result }
+    {
+        let blank = Rule {
+            lhs: 0,
+            expansion: Expansion::Leaf { code: 0 },
+            cost: 0,
+            bottom: 0,
+        };
+        let mut gathered = Gathered {
+            rules: List::new(blank),
+            next: 0,
+        };
+        for _ in 0..grammar.bound() {
+            if gathered.take_next(grammar).is_err() {
+                break;
+            }
+        }
+        gathered
+    }
 }

@@ -11,7 +11,6 @@ mod gathered;
 mod reads;
 mod refilling;
 mod replaces;
-mod rules;
 mod shares;
 pub mod slots;
 mod span;

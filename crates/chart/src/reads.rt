@@ -1,5 +1,6 @@
 // Making a chart, and what it answers.
 ghost use Rattle.std.specs.Prelude.{◌≡◌, ℕ, ◌<◌, IfOk, if◌then◌else◌};
+ghost use Rattle.semiring.specs.Semirings.{sum_below};
 ghost use Rattle.grammar.specs.Totals.{TotalOf, weight_of, by};
 ghost use Rattle.grammar.specs.Derivations.{EntriesFromStarts};
 ghost use Rattle.entries.specs.Model.{state, empty};
@@ -58,18 +59,26 @@ impl<'a, S: Semiring> Chart<'a, S> {
         ensures is { result ≡ total_answer S.ring (G.meaning grammar.now) self.now.entries.nonterminals self.now.entries.count self.now.slots.cells.now }
         ensures total { (w : ℕ → ℕ → S) → ChartStands S.ring w (G.meaning grammar.now) self.now.entries self.now.slots.cells.now → IfOk result (TotalOf S.ring (EntriesFromStarts (G.meaning grammar.now) (state self.now.entries).entries) (weight_of S.ring (by w) (G.meaning grammar.now))) }
     {
-        let n = self.entries.nonterminals();
-        if grammar.nonterminals() != n {
+        if grammar.nonterminals() != self.entries.nonterminals() {
             return Err(Refusal::OtherGrammar);
         }
-        let mut sum = S::zero();
         if self.entries.len() == 0 {
-            return Ok(sum);
+            return Ok(S::zero());
         }
-        for a in 0..n {
+        Ok(self.start_sum(grammar))
+    }
+
+    // The sum of the cells of all entries over the starts.
+    #[tactic(auto, using(semiring::proofs::Sums::sum_none, semiring::proofs::Sums::sum_more))]
+    fn start_sum<G: Grammar>(&self, grammar: &G) -> S
+        requires { 0 < self.now.entries.count }
+        ensures { result ≡ sum_below S.ring self.now.entries.nonterminals (λ A. if (G.meaning grammar.now).start A then cell_at S.ring self.now.entries.nonterminals self.now.slots.cells.now 0 self.now.entries.count A else S.ring.zero) }
+    {
+        let mut sum = S::zero();
+        for a in 0..self.entries.nonterminals() {
             sum = sum.add(self.start_cell(grammar, a));
         }
-        Ok(sum)
+        sum
     }
 
     // The cell of all entries and a nonterminal, where that is a start, and else zero.

@@ -5,7 +5,7 @@ ghost use Rattle.grammar.specs.Spans as spans;
 ghost use Rattle.grammar.specs.Totals.{by};
 ghost use Rattle.chart.specs.Cells as cells;
 ghost use Rattle.chart.specs.Columns as columns;
-ghost use Rattle.chart.specs.Gathers.{Named, at_hand};
+ghost use Rattle.chart.specs.Gathers.{Named};
 ghost use Rattle.chart.specs.Sums.{Known};
 
 use super::cells::Cells;
@@ -79,10 +79,10 @@ impl<'a, G: Grammar, W: Weighing> Filling<'a, G, W> {
     // Adds the shares of the rules at hand, one after the other.
     fn add_rules(&self, slots: &mut [W::Value], sums: &[Sum<W::Value>])
         requires known { Known W.Value.Semiring.ring self.now.span.cells self.now.span.begin self.now.span.end slots.old sums.now }
-        ensures added { slots.new ≡ fold (columns.with_rule W.Value.Semiring.ring (by (W.weight self.now.weighing.now)) self.now.span.cells self.now.last.bits self.now.span.begin self.now.span.end) slots.old (at_hand self.now.gathered.now) }
+        ensures added { slots.new ≡ fold (columns.with_rule W.Value.Semiring.ring (by (W.weight self.now.weighing.now)) self.now.span.cells self.now.last.bits self.now.span.begin self.now.span.end) slots.old self.now.gathered.now.rules.items }
         ensures known { Known W.Value.Semiring.ring self.now.span.cells self.now.span.begin self.now.span.end slots.new sums.now }
     {
-        for rule in self.gathered.rules() {
+        for rule in self.gathered.rules.as_slice() {
             self.add_rule(slots, sums, rule);
         }
     }

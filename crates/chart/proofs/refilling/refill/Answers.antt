@@ -26,7 +26,7 @@ loop-i-preserved g c =
     let l = c.loop-i in
     let x = c.last-item.result in
     let inside : k + l.i < length entries = omega arith in
-    let last : x.bits ≡ get_or es (k + l.i) 0 = ap bits_of (c.last-item.is ∙ get_or-take (length entries - k) _ l.i x (omega arith) ∙ get_or-drop k entries l.i x) ∙ sym (get_or-map bits_of entries (k + l.i) x 0 inside) in
+    let last : x.bits ≡ get_or es (k + l.i) 0 = ap bits_of (c.last-item.is ∙ get_or-take _ _ l.i x (omega arith) ∙ get_or-drop k entries l.i x) ∙ sym (get_or-map bits_of entries (k + l.i) x 0 inside) in
     let here : k + l.i ≡ k + l.i + 1 - 1 = omega arith in
     let next : k + l.i + 1 + 1 ≡ k + (l.i + 1) + 1 = omega arith in
     subst (λ past. Refilled g.W.Value.Semiring.ring w m es k past c.args.slots.now c.fill_column.new.slots) next

@@ -10,6 +10,6 @@ pub add_rule-requires-clause-named : goal.add_rule-requires-clause-named
 add_rule-requires-clause-named g c =
     let f = c.args.self.now in
     let named = named_at_hand (g.G.Grammar.meaning f.grammar.now) (g.G.Grammar.shown f.grammar.now) f.gathered.now f.own f.gathers in
-    let inside : c.loop-rule.rule-index < length c.rules-rule-items.result.now = omega arith in
-    All-get_or (Named f.span.cells) c.rules-rule-items.result.now c.loop-rule.rule-index _ inside
-    (subst⁻¹ (AllByRecursion (Named f.span.cells)) c.rules-rule-items.ensures named)
+    let inside : c.loop-rule.rule-index < length c.as_slice-rule-items.result.now = omega arith in
+    All-get_or (Named f.span.cells) c.as_slice-rule-items.result.now c.loop-rule.rule-index _ inside
+    (subst⁻¹ (AllByRecursion (Named f.span.cells)) c.as_slice-rule-items.ensures named)

@@ -1,7 +1,6 @@
 use Rattle.std.proofs.Common.{◌≡◌, take, fold}
 use Rattle.grammar.specs.Totals.{by}
 use Rattle.chart.specs.Columns.{with_rule}
-use Rattle.chart.specs.Gathers.{at_hand}
 use Rattle.chart.specs.Sums.{Known}
 use Rattle.chart.proofs.filling.Filling.add_rules.Given as goal
 
@@ -10,6 +9,6 @@ invariant-loop-rule g l =
     let f = l.self in
     let s = f.span in
     let ring = g.W.Value.Semiring.ring in record {
-      added : l.slots ≡ fold (with_rule ring (by (g.W.Weighing.weight f.weighing.now)) s.cells f.last.bits s.begin s.end) l.initial.slots (take l.rule-index (at_hand f.gathered.now));
+      added : l.slots ≡ fold (with_rule ring (by (g.W.Weighing.weight f.weighing.now)) s.cells f.last.bits s.begin s.end) l.initial.slots (take l.rule-index f.gathered.now.rules.items);
       known : Known ring s.cells s.begin s.end l.slots l.sums;
     }

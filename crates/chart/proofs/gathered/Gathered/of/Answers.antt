@@ -1,14 +1,18 @@
-use Rattle.std.proofs.Common.{◌≡◌, arith}
-use Rattle.chart.specs.Gathers.{pushed, at_hand}
+use Rattle.std.proofs.Common.{◌≡◌, ◌+◌, refl, arith, rules}
+use Rattle.chart.specs.Gathers.{pushed}
 use Rattle.chart.proofs.Gathering.{gathers_none, gathers_more}
 use Rattle.chart.proofs.gathered.Gathered.of.Goals as goal
 
-pub loop-gathered-init : goal.loop-gathered-init
-loop-gathered-init g c = gathers_none (g.G.Grammar.meaning c.args.grammar.now) _ c.new-gathered.ensures.rules c.new-gathered.ensures.next
+pub loop-init : goal.loop-init
+loop-init g c = record { gathers = gathers_none (g.G.Grammar.meaning c.args.grammar.now) _ c.new.ensures refl; next = refl }
 
-pub loop-gathered-preserved : goal.loop-gathered-preserved
-loop-gathered-preserved g c =
-    let l = c.loop-gathered in
+pub loop-preserved : goal.loop-preserved
+loop-preserved g c =
     let m = g.G.Grammar.meaning c.args.grammar.now in
-    let rules : at_hand c.push.new.self ≡ pushed (at_hand l.gathered) (m.rule l.gathered.next) = cc in
-    gathers_more m l.gathered c.push.new.self rules c.push.ensures.next (omega arith) l.invariant
+    let before = c.loop.gathered in
+    let after = c.take_next.new.self in
+    let done : (after.rules.items ≡ pushed before.rules.items (m.rule before.next)) × (after.next ≡ before.next + 1) = search rules in
+    record {
+      gathers = gathers_more m before after done.0 done.1 (omega arith) c.loop.invariant.gathers;
+      next = omega arith;
+    }

@@ -1,7 +1,7 @@
 use Rattle.std.proofs.Common.{◌≡◌, ℕ, cond}
 use Rattle.semiring.specs.Semirings.{sum_below}
 use Rattle.chart.specs.Cells.{cell_at}
-use Rattle.chart.proofs.chart.Chart.total.Given as goal
+use Rattle.chart.proofs.chart.Chart.start_sum.Given as goal
 
 abbrev pub invariant-loop-a : goal.invariant-loop-a
 invariant-loop-a g l =

@@ -2,13 +2,12 @@
 // in how many ways, and at what least cost.
 #![tactic(auto)]
 
+use answer::report::Totals;
 use chart::chart::Chart;
-use entries::call::Call;
 use grammar::grammar::Grammar;
 use grammar::refusal::Refusal;
 use grammar::rule::{Expansion, Rule};
 use grammar::weighing::{CostWeighing, UnitWeighing, Weighing};
-use runs::replay::{Replayed, replay};
 use semiring::cost::Cost;
 use semiring::count::Count;
 use semiring::semiring::Semiring;
@@ -17,22 +16,16 @@ use std::io;
 use table::draft::Draft;
 use table::table::Table;
 
-const BLANK: Rule = Rule {
-    lhs: 0,
-    expansion: Expansion::Leaf { code: 0 },
-    cost: 0,
-    bottom: 0,
-};
-
-const CALLS: [Call; 2] = [Call::Append(0b11), Call::Append(0b11)];
+// The entries, each as a set of codes.
+const ENTRIES: [u32; 2] = [0b11, 0b11];
 
 // The grammar of the three rules, over rows that are lent.
-fn rules(rows: &mut [Rule]) -> Table<'_> {
+fn rules(rows: &mut [Rule]) -> Result<Table<'_>, Refusal> {
     let mut draft = Draft::new(rows, 1, 2, 0);
-    let _ = draft.add(0, Expansion::Pair { left: 0, right: 0 }, 1);
-    let _ = draft.add(0, Expansion::Leaf { code: 0 }, 2);
-    let _ = draft.add(0, Expansion::Leaf { code: 1 }, 3);
-    draft.seal()
+    draft.add(0, Expansion::Pair { left: 0, right: 0 }, 1)?;
+    draft.add(0, Expansion::Leaf { code: 0 }, 2)?;
+    draft.add(0, Expansion::Leaf { code: 1 }, 3)?;
+    Ok(draft.seal())
 }
 
 // The total of the entries by a weighing.
@@ -42,59 +35,26 @@ fn total<S: Semiring, G: Grammar, W: Weighing<Value = S>>(
     weighing: &W,
 ) -> Result<S, Refusal> {
     let mut chart = Chart::new(slots, grammar);
-    let mut costs = [Cost::zero(); 3];
-    let Replayed {
-        total,
-        cost: _,
-        tree: _,
-        trial,
-    } = replay(
-        &mut chart,
-        &mut costs,
-        grammar,
-        weighing,
-        &CALLS,
-        &mut [],
-        &mut [],
-    );
-    if let Some(trial) = trial {
-        chart.keep(trial)?;
+    for codes in ENTRIES {
+        chart.append(grammar, weighing, codes)?;
     }
-    total
+    chart.total(grammar)
 }
 
-// Whether the entries can be read, in how many ways, and at what least cost.
-#[derive(Clone, Copy)]
-struct Answers {
-    read: bool,
-    count: u64,
-    cost: u32,
-}
-
-// The answers of three charts.
-fn read_entries() -> Result<Answers, Refusal> {
-    let mut rows = [BLANK; 3];
-    let grammar = rules(&mut rows);
-    let mut yes_no_slots = [YesNo::zero(); 3];
-    let mut count_slots = [Count::zero(); 3];
-    let mut cost_slots = [Cost::zero(); 3];
-    let read = total(&mut yes_no_slots, &grammar, &UnitWeighing::new())?;
-    let count = total(&mut count_slots, &grammar, &UnitWeighing::new())?;
-    let cost = total(&mut cost_slots, &grammar, &CostWeighing {})?;
-    Ok(Answers {
-        read: read.value,
-        count: count.value,
-        cost: cost.value,
+// Whether the entries can be read, in how many ways, and at what least cost: the totals of three charts.
+fn read_entries() -> Result<Totals, Refusal> {
+    let mut rows = [Rule::BLANK; 3];
+    let grammar = rules(&mut rows)?;
+    Ok(Totals {
+        read: total(&mut [YesNo::zero(); 3], &grammar, &UnitWeighing::new())?,
+        count: total(&mut [Count::zero(); 3], &grammar, &UnitWeighing::new())?,
+        cost: total(&mut [Cost::zero(); 3], &grammar, &CostWeighing {})?,
     })
 }
 
 fn main(rt: HostRuntime) -> io::Result<()> {
     match read_entries() {
-        Ok(found) => {
-            println!(rt; "read {}", if found.read { "yes" } else { "no" })?;
-            println!(rt; "count {}", found.count)?;
-            println!(rt; "cost {}", found.cost)
-        }
+        Ok(totals) => print!(rt; "{totals}"),
         Err(why) => println!(rt; "refused {}", why.number()),
     }
 }

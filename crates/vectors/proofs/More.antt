@@ -1,32 +1,27 @@
 -- One element more at the end of a list. Assumes nothing.
-use Rattle.std.proofs.Common.{◌≡◌, ℕ, ◌+◌, ◌-◌, ◌/◌, ◌%◌, ◌<◌, true, false, cond, ltb, List, [], ◌∷◌, ◌++◌, length, get_or, take, drop, sym, refl, ap, ◌∙◌, subst, append-nil, arith, take_all}
+use Rattle.std.proofs.Common.{◌≡◌, ℕ, zero, suc, ◌+◌, ◌*◌, ◌/◌, ◌%◌, ◌<◌, ◌≤◌, List, [], ◌∷◌, ◌++◌, length, get_or, take, sym, refl, ap, subst, arith}
+use Rattle.std.specs.Simd.{first_chunks}
 use Rattle.std.proofs.lemmas.List.{take_more}
 use Rattle.vectors.specs.declared.stored.Stored.{Stored}
 use Rattle.vectors.specs.Hex.{digit_of, spelled}
 use Rattle.vectors.specs.Jobs.{Right, AllRight}
 
 -- one byte more
-pub spelled_more : (bs : List ℕ) (b : ℕ) (rest : List ℕ) → spelled (bs ++ (b ∷ [])) ++ rest ≡ spelled bs ++ (digit_of (b / 16) ∷ (digit_of (b % 16) ∷ rest))
-spelled_more [] b rest = refl
-spelled_more (c ∷ bs) b rest = ap (λ l. digit_of (c / 16) ∷ (digit_of (c % 16) ∷ l)) (spelled_more bs b rest)
+pub spelled_more : (bs : List ℕ) (b : ℕ) → spelled (bs ++ (b ∷ [])) ≡ spelled bs ++ (digit_of (b / 16) ∷ (digit_of (b % 16) ∷ []))
+spelled_more [] b = refl
+spelled_more (c ∷ bs) b = ap (λ l. digit_of (c / 16) ∷ (digit_of (c % 16) ∷ l)) (spelled_more bs b)
 
--- no digit is 0
-digit_some : (n : ℕ) → digit_of n ≡ 0 → ⊥
-digit_some n = elim (ltb n 10) as (λ t. cond t (48 + n) (55 + n) ≡ 0 → ⊥) [ true ↦ λ e. omega arith | false ↦ λ e. omega arith ]
-
--- one byte more, and two digits less
-pub spelled_step : (bs : List ℕ) (b : ℕ) (rest text : List ℕ) → digit_of (b / 16) ≡ get_or rest 0 0 → digit_of (b % 16) ≡ get_or rest 1 0 → spelled bs ++ rest ≡ text → spelled (bs ++ (b ∷ [])) ++ take (length rest - 2) (drop 2 rest) ≡ text
-spelled_step bs b [] text p q e = absurd (digit_some (b / 16) p)
-spelled_step bs b (x ∷ []) text p q e = absurd (digit_some (b % 16) q)
-spelled_step bs b (x ∷ (y ∷ r)) text p q e =
-    let rest_all : take (length (x ∷ (y ∷ r)) - 2) r ≡ r = take_all (length (x ∷ (y ∷ r)) - 2) r (omega arith) in
-    let more = spelled_more bs b (take (length (x ∷ (y ∷ r)) - 2) r) in
-    cc
-
--- no digits are left
-pub spelled_all : (front rest text : List ℕ) → length rest ≡ 0 → front ++ rest ≡ text → front ≡ text
-spelled_all front [] text h e = sym (append-nil front) ∙ e
-spelled_all front (x ∷ r) text h e = absurd (omega arith)
+-- one pair more
+pub pairs_more : (k i : ℕ) (xs : List ℕ) → i < k → k * 2 ≤ length xs
+    → take ((i + 1) * 2) xs ≡ take (i * 2) xs ++ (get_or (get_or (first_chunks 2 k xs) i []) 0 0 ∷ (get_or (get_or (first_chunks 2 k xs) i []) 1 0 ∷ []))
+pairs_more zero i xs h l = absurd (omega arith)
+pairs_more (suc k) i [] h l = absurd (omega arith)
+pairs_more (suc k) i (x ∷ []) h l = absurd (omega arith)
+pairs_more (suc k) zero (x ∷ (y ∷ r)) h l = refl
+pairs_more (suc k) (suc i) (x ∷ (y ∷ r)) h l =
+    let next : (suc i + 1) * 2 ≡ suc (suc ((i + 1) * 2)) = omega arith in
+    let here : suc i * 2 ≡ suc (suc (i * 2)) = omega arith in
+    rw (next, here) (ap (λ t. x ∷ (y ∷ t)) (pairs_more k i r (omega arith) (omega arith)))
 
 -- one right answer more at the end
 right_append : (ss : List Stored) (s : Stored) → AllRight ss → Right s → AllRight (ss ++ (s ∷ []))

@@ -16,6 +16,7 @@ pub(crate) struct Stored {
 
 impl Stored {
     // What a line holds: the bytes of the job as hexadecimal digits, a tab, and the lines of the answer with a bar between them.
+    #[tactic(auto, using(std::proofs::lemmas::Str::Pattern::split_parts))]
     fn read(heap: Global, line: &str) -> Result<Stored, Misread>
         ensures { IfOk result (λ stored. Holds line.now stored) }
     {
@@ -48,10 +49,11 @@ fn unbar(byte: u8) -> u8
 fn lines(heap: Global, barred: &str) -> Result<Vec<u8>, AllocError>
     ensures { IfOk result (λ bytes. bytes.items ≡ unbarred barred.now) }
 {
-    let mut text = Vec::new(heap);
-    for byte in barred.as_bytes() {
-        text.push(unbar(*byte))?;
-    }
+    let mut text: Vec<u8> = barred
+        .as_bytes()
+        .iter()
+        .map(|byte| unbar(*byte))
+        .collect(heap)?;
     text.push(b'\n')?;
     Ok(text)
 }
@@ -60,19 +62,19 @@ fn lines(heap: Global, barred: &str) -> Result<Vec<u8>, AllocError>
 pub(crate) fn load(heap: Global, text: &str) -> Result<Vec<Stored>, Misread>
     ensures { IfOk result (λ all. (line_feeds text.now ≤ vec_len all) × (vec_len all ≤ line_feeds text.now + 1)) }
 {
-    let mut all = Vec::new(heap);
-    for line in text.lines() {
-        all.push(Stored::read(heap, line)?)?;
-    }
-    Ok(all)
+    text.lines()
+        .map(|line| Stored::read(heap, line))
+        .try_collect(heap)
 }
 
 // The numbers of the jobs that are answered otherwise than stored, counted from 0.
+#[tactic(auto, using(crate::proofs::More::right_more))]
 pub(crate) fn differing(heap: Global, all: &[Stored]) -> Result<Vec<usize>, AllocError>
     ensures few { IfOk result (λ numbers. vec_len numbers ≤ length all.now) }
     ensures right { IfOk result (λ numbers. vec_len numbers ≡ 0 → AllRight all.now) }
 {
     let mut numbers = Vec::new(heap);
+    // a loop, and no filter: the library may run out of memory at each job
     for (number, stored) in all.iter().enumerate() {
         if !stored.agrees(heap)? {
             numbers.push(number)?;

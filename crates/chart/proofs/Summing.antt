@@ -4,23 +4,28 @@ use Rattle.std.proofs.lemmas.List.{length-set, get_or-set_other}
 use Rattle.semiring.specs.Semirings.{Operations, Laws}
 use Rattle.chart.specs.Cells.{place, cell_at, added, Room}
 use Rattle.chart.specs.Sums.{Known}
+use Rattle.chart.specs.declared.span.Span.{Span}
 use Rattle.chart.specs.declared.sums.Sum.{Sum}
 use Rattle.chart.proofs.Places.{place_narrow, place_later}
 use Rattle.chart.proofs.Rows.{Agree, cut_sum_same}
 
 module _ {S : Type 0} {ops : Operations S} (laws : Laws ops) where
-  module _ (n begin end : ℕ) where
-    -- what is added to a cell of (begin, end) changes no cell of the narrower spans inside it
-    agree_added : (xs : List S) (a : ℕ) (v : S) → a < n → Agree laws n begin end (cell_at ops n xs) (cell_at ops n (added ops n xs begin end a v))
-    agree_added xs a v ha k c l1 l2 hc = (
-      sym (get_or-set_other xs (place n begin end a) (place n begin k c) _ ops.zero (λ e. omega (arith, e, place_narrow n begin k c begin end a l1 l2 hc))),
-      sym (get_or-set_other xs (place n begin end a) (place n k end c) _ ops.zero (λ e. omega (arith, e, place_later n begin k end a c l1 ha))),
-    )
+  module _ (span : Span) where
+    abbrev n : ℕ
+    n = span.cells
+
+    -- what is added to a cell of the span changes no cell of the narrower spans inside it
+    agree_added : (xs : List S) (a : ℕ) (v : S) → a < n → Agree laws n span.begin span.end (cell_at ops n xs) (cell_at ops n (added ops n xs span.begin span.end a v))
+    agree_added xs a v ha k c l1 l2 hc =
+        let at = place n span.begin span.end a in (
+          sym (get_or-set_other xs at (place n span.begin k c) _ ops.zero (λ e. omega (arith, e, place_narrow n span.begin k c span.begin span.end a l1 l2 hc))),
+          sym (get_or-set_other xs at (place n k span.end c) _ ops.zero (λ e. omega (arith, e, place_later n span.begin k span.end a c l1 ha))),
+        )
 
     pub known_added : (a : ℕ) (v : S) (xs : List S) (sums : List (Sum S)) → a < n
-        → Known ops n begin end xs sums → Known ops n begin end (added ops n xs begin end a v) sums
+        → Known ops span xs sums → Known ops span (added ops n xs span.begin span.end a v) sums
     known_added a v xs sums ha known = record {
-      room = subst (Room n end) (sym (length-set xs _ _)) known.room;
+      room = subst (Room n span.end) (sym (length-set xs _ _)) known.room;
       each = λ i d h left right. known.each i d h left right
-          ∙ cut_sum_same laws n (cell_at ops n xs) (cell_at ops n (added ops n xs begin end a v)) begin end _ _ left right (agree_added xs a v ha);
+          ∙ cut_sum_same laws n (cell_at ops n xs) (cell_at ops n (added ops n xs span.begin span.end a v)) span.begin span.end _ _ left right (agree_added xs a v ha);
     }

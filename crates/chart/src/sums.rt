@@ -38,8 +38,8 @@ fn note_pair<S: Copy>(sums: &mut [Sum<S>], rule: &Rule) -> usize
     if let Expansion::Pair { left, right } = rule.expansion {
         let key = Key { left, right };
         let at = key.place();
-        if at < sums.len() {
-            sums[at].key = key;
+        if let Some(sum) = sums.get_mut(at) {
+            sum.key = key;
             return at + 1;
         }
     }
@@ -84,7 +84,7 @@ impl<'a, S: Semiring> Cells<'a, S> {
 
     // The sum of a key; zero where the key names no two nonterminals.
     fn pair_sum(&self, key: Key) -> S
-        ensures { KnownAt S.ring self.now.span.cells self.now.span.begin self.now.span.end self.now.slots.now key result }
+        ensures { KnownAt S.ring self.now.span self.now.slots.now key result }
     {
         let left = key.left as usize;
         let right = key.right as usize;
@@ -97,7 +97,7 @@ impl<'a, S: Semiring> Cells<'a, S> {
 
     // Works out the sum of each key.
     pub(crate) fn sum_pairs(&self, sums: &mut [Sum<S>])
-        ensures { Known S.ring self.now.span.cells self.now.span.begin self.now.span.end self.now.slots.now sums.new }
+        ensures { Known S.ring self.now.span self.now.slots.now sums.new }
     {
         for sum in sums.iter_mut() {
             sum.value = self.pair_sum(sum.key);
@@ -107,7 +107,7 @@ impl<'a, S: Semiring> Cells<'a, S> {
     // The sum over the cuts of the span: the one at the pair's place, if that is of this pair, or else it is worked out.
     pub(crate) fn known_sum(&self, sums: &[Sum<S>], key: Key) -> S
         requires names { (key.left < self.now.span.cells) × (key.right < self.now.span.cells) }
-        requires known { Known S.ring self.now.span.cells self.now.span.begin self.now.span.end self.now.slots.now sums.now }
+        requires known { Known S.ring self.now.span self.now.slots.now sums.now }
         ensures { result ≡ cells.cut_sum S.ring (cells.cell_at S.ring self.now.span.cells self.now.slots.now) self.now.span.begin self.now.span.end key.left key.right }
     {
         match sums.get(key.place()) {

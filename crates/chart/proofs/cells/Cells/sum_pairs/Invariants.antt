@@ -5,5 +5,4 @@ use Rattle.chart.proofs.cells.Cells.sum_pairs.Given as goal
 
 abbrev pub invariant-loop-sum : goal.invariant-loop-sum
 invariant-loop-sum g l =
-    let s = l.self.span in
-    (k : ℕ) (d : Sum g.row.S.Denot) → k < l.sum-index → KnownAt g.S.Semiring.ring s.cells s.begin s.end l.self.slots.now (get_or l.sums k d).key (get_or l.sums k d).value
+    (k : ℕ) (d : Sum g.row.S.Denot) → k < l.sum-index → KnownAt g.S.Semiring.ring l.self.span l.self.slots.now (get_or l.sums k d).key (get_or l.sums k d).value

@@ -10,5 +10,5 @@ invariant-loop-rule g l =
     let s = f.span in
     let ring = g.W.Value.Semiring.ring in record {
       added : l.slots ≡ fold (with_rule ring (by (g.W.Weighing.weight f.weighing.now)) s.cells f.last.bits s.begin s.end) l.initial.slots (take l.rule-index f.gathered.now.rules.items);
-      known : Known ring s.cells s.begin s.end l.slots l.sums;
+      known : Known ring s l.slots l.sums;
     }

@@ -4,6 +4,7 @@ ghost use Rattle.grammar.specs.Totals.{by};
 ghost use Rattle.chart.specs.Cells as cells;
 ghost use Rattle.chart.specs.Columns as columns;
 
+use super::column::Column;
 use super::filling::Filling;
 use super::span::Span;
 use super::sums::{Key, Sum, note_pairs};
@@ -33,46 +34,41 @@ fn clear_column<S: Semiring>(slots: &mut [S], span: Span, upto: usize)
     wipe(&mut slots[first..past]);
 }
 
-impl<'a, G: Grammar, W: Weighing> Filling<'a, G, W> {
-    // Fills the spans that begin before `upto` and end as this one, which are zero, narrow ones first.
-    fn fill_rows(&self, slots: &mut [W::Value], sums: &mut [Sum<W::Value>], upto: usize)
-        requires room { cells.Room self.now.span.cells self.now.span.end (length slots.old) }
-        requires part { upto ≤ self.now.span.end }
-        requires zero { columns.Column W.Value.Semiring.ring (by (W.weight self.now.weighing.now)) (G.meaning self.now.grammar.now) self.now.last.bits upto upto self.now.span.end slots.old slots.old }
-        ensures { columns.Column W.Value.Semiring.ring (by (W.weight self.now.weighing.now)) (G.meaning self.now.grammar.now) self.now.last.bits 0 upto self.now.span.end slots.old slots.new }
+impl<'a, G: Grammar, W: Weighing> Column<'a, G, W> {
+    // Fills its spans, which are zero, narrow ones first.
+    fn fill_rows(&self, slots: &mut [W::Value], sums: &mut [Sum<W::Value>])
+        requires room { cells.Room self.now.widest.span.cells self.now.widest.span.end (length slots.old) }
+        requires zero { columns.Column W.Value.Semiring.ring (by (W.weight self.now.widest.weighing.now)) (G.meaning self.now.widest.grammar.now) self.now.widest.last.bits self.now.upto self.now.upto self.now.widest.span.end slots.old slots.old }
+        ensures { columns.Column W.Value.Semiring.ring (by (W.weight self.now.widest.weighing.now)) (G.meaning self.now.widest.grammar.now) self.now.widest.last.bits 0 self.now.upto self.now.widest.span.end slots.old slots.new }
     {
-        let Span { end, cells, .. } = self.span;
-        for begin in (0..upto).rev() {
+        let Span { end, cells, .. } = self.widest.span;
+        for begin in (0..self.upto).rev() {
             let row = Filling {
-                grammar: self.grammar,
-                weighing: self.weighing,
-                gathered: self.gathered,
+                grammar: self.widest.grammar,
+                weighing: self.widest.weighing,
+                gathered: self.widest.gathered,
                 span: Span { begin, end, cells },
-                last: self.last,
+                last: self.widest.last,
             };
             row.fill_row(slots, sums);
         }
     }
 
-    // Fills the spans that begin before `upto` and end as this one, with room for so many sums.
-    fn fill_with(&self, slots: &mut [W::Value], sums: &mut [Sum<W::Value>], upto: usize)
-        requires room { cells.Room self.now.span.cells self.now.span.end (length slots.old) }
-        requires first { self.now.span.begin ≡ 0 }
-        requires part { upto ≤ self.now.span.end }
-        ensures { columns.Column W.Value.Semiring.ring (by (W.weight self.now.weighing.now)) (G.meaning self.now.grammar.now) self.now.last.bits 0 upto self.now.span.end slots.old slots.new }
+    // Fills its spans, with room for so many sums.
+    fn fill_with(&self, slots: &mut [W::Value], sums: &mut [Sum<W::Value>])
+        requires room { cells.Room self.now.widest.span.cells self.now.widest.span.end (length slots.old) }
+        ensures { columns.Column W.Value.Semiring.ring (by (W.weight self.now.widest.weighing.now)) (G.meaning self.now.widest.grammar.now) self.now.widest.last.bits 0 self.now.upto self.now.widest.span.end slots.old slots.new }
     {
-        let used = note_pairs(sums, self.gathered.rules.as_slice());
-        clear_column(slots, self.span, upto);
-        self.fill_rows(slots, &mut sums[0..used], upto);
+        let used = note_pairs(sums, self.widest.gathered.rules.as_slice());
+        clear_column(slots, self.widest.span, self.upto);
+        self.fill_rows(slots, &mut sums[0..used]);
     }
 
-    // Fills them with shared sums, of which there are fewer than slots.
-    fn fill_shared(&self, slots: &mut [W::Value], upto: usize)
-        requires room { cells.Room self.now.span.cells self.now.span.end (length slots.old) }
-        requires first { self.now.span.begin ≡ 0 }
-        requires part { upto ≤ self.now.span.end }
+    // Fills its spans with shared sums, of which there are fewer than slots.
+    fn fill_shared(&self, slots: &mut [W::Value])
+        requires room { cells.Room self.now.widest.span.cells self.now.widest.span.end (length slots.old) }
         requires many { 64 < length slots.old }
-        ensures { columns.Column W.Value.Semiring.ring (by (W.weight self.now.weighing.now)) (G.meaning self.now.grammar.now) self.now.last.bits 0 upto self.now.span.end slots.old slots.new }
+        ensures { columns.Column W.Value.Semiring.ring (by (W.weight self.now.widest.weighing.now)) (G.meaning self.now.widest.grammar.now) self.now.widest.last.bits 0 self.now.upto self.now.widest.span.end slots.old slots.new }
     {
         let blank = Sum {
             key: Key {
@@ -82,21 +78,19 @@ impl<'a, G: Grammar, W: Weighing> Filling<'a, G, W> {
             value: W::Value::zero(),
         };
         let mut sums = [blank; 64];
-        self.fill_with(slots, &mut sums, upto);
+        self.fill_with(slots, &mut sums);
     }
 
-    // Fills the spans that begin before `upto` and end as this one. A chart of few slots goes without shared sums.
-    pub(crate) fn fill_column(&self, slots: &mut [W::Value], upto: usize)
-        requires room { cells.Room self.now.span.cells self.now.span.end (length slots.old) }
-        requires first { self.now.span.begin ≡ 0 }
-        requires part { upto ≤ self.now.span.end }
-        ensures { columns.Column W.Value.Semiring.ring (by (W.weight self.now.weighing.now)) (G.meaning self.now.grammar.now) self.now.last.bits 0 upto self.now.span.end slots.old slots.new }
+    // Fills its spans. A chart of few slots goes without shared sums.
+    pub(crate) fn fill(&self, slots: &mut [W::Value])
+        requires room { cells.Room self.now.widest.span.cells self.now.widest.span.end (length slots.old) }
+        ensures { columns.Column W.Value.Semiring.ring (by (W.weight self.now.widest.weighing.now)) (G.meaning self.now.widest.grammar.now) self.now.widest.last.bits 0 self.now.upto self.now.widest.span.end slots.old slots.new }
     {
         if slots.len() > 64 {
-            self.fill_shared(slots, upto);
+            self.fill_shared(slots);
         } else {
             let mut none = [];
-            self.fill_with(slots, &mut none, upto);
+            self.fill_with(slots, &mut none);
         }
     }
 }

@@ -4,6 +4,7 @@
 mod appends;
 mod cells;
 pub mod chart;
+mod column;
 mod columns;
 mod edits;
 mod filling;

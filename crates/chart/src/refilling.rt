@@ -5,6 +5,7 @@ ghost use Rattle.entries.specs.Model.{bits_of};
 ghost use Rattle.chart.specs.Cells as cells;
 ghost use Rattle.chart.specs.Columns as columns;
 
+use super::column::Column;
 use super::filling::Filling;
 use super::gathered::Gathered;
 use super::span::Span;
@@ -28,7 +29,7 @@ pub(crate) fn refill<G: Grammar, W: Weighing>(
     let gathered = Gathered::of(grammar);
     let cells = grammar.nonterminals() as usize;
     for (i, last) in entries[k..].iter().enumerate() {
-        let column = Filling {
+        let widest = Filling {
             grammar,
             weighing,
             gathered: &gathered,
@@ -39,6 +40,10 @@ pub(crate) fn refill<G: Grammar, W: Weighing>(
             },
             last: *last,
         };
-        column.fill_column(slots, k + 1);
+        Column {
+            widest,
+            upto: k + 1,
+        }
+        .fill(slots);
     }
 }

@@ -6,6 +6,7 @@ ghost use Rattle.chart.specs.Columns as columns;
 ghost use Rattle.entries.specs.Model.{state};
 
 use super::cells::Cells;
+use super::column::Column;
 use super::filling::Filling;
 use super::gathered::Gathered;
 use super::refilling::refill;
@@ -57,7 +58,7 @@ impl<'a, S: Semiring> Slots<'a, S> {
         ensures named { self.new.cells.ghost_name ≡ self.old.cells.ghost_name }
     {
         let cells = grammar.nonterminals() as usize;
-        let column = Filling {
+        let widest = Filling {
             grammar,
             weighing,
             gathered: &Gathered::of(grammar),
@@ -68,7 +69,7 @@ impl<'a, S: Semiring> Slots<'a, S> {
             },
             last,
         };
-        column.fill_column(&mut *self.cells, end);
+        Column { widest, upto: end }.fill(&mut *self.cells);
     }
 
     // Fills anew the spans in use that cover entry `k`.

@@ -3,7 +3,7 @@ use prog.Memory.{size}
 use denote.Memory.{lone}
 use denote.Param.{layout}
 use Rattle.chart.proofs.Sized.{sums_fit}
-use Rattle.chart.proofs.filling.Filling.fill_shared.Goals as goal
+use Rattle.chart.proofs.column.Column.fill_shared.Goals as goal
 
 -- the slots fit, of which there are more than sums
 pub whole_as_slice-fill_with : goal.whole_as_slice-fill_with

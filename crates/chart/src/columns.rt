@@ -22,19 +22,17 @@ fn wipe<S: Semiring>(slots: &mut [S])
     }
 }
 
-// Sets the cells of the spans that begin before `upto` and end as the given one, which begins at 0, to zero: a part of the slots that starts in their middle.
-fn clear_column<S: Semiring>(slots: &mut [S], span: Span, upto: usize)
-    requires room { cells.Room span.cells span.end (length slots.old) }
-    requires first { (span.begin ≡ 0) × (0 < span.cells) }
-    requires part { upto ≤ span.end }
-    ensures { columns.Cleared S.ring span.cells span.end upto slots.old slots.new }
-{
-    let first = span.slot(0);
-    let past = first + upto * span.cells;
-    wipe(&mut slots[first..past]);
-}
-
 impl<'a, G: Grammar, W: Weighing> Column<'a, G, W> {
+    // Sets the cells of its spans to zero: a part of the slots that starts in their middle.
+    fn clear(&self, slots: &mut [W::Value])
+        requires { cells.Room self.now.widest.span.cells self.now.widest.span.end (length slots.old) }
+        ensures { columns.Cleared W.Value.Semiring.ring self.now.widest.span.cells self.now.widest.span.end self.now.upto slots.old slots.new }
+    {
+        let first = self.widest.span.slot(0);
+        let past = first + self.upto * self.widest.span.cells;
+        wipe(&mut slots[first..past]);
+    }
+
     // Fills its spans, which are zero, narrow ones first.
     fn fill_rows(&self, slots: &mut [W::Value], sums: &mut [Sum<W::Value>])
         requires room { cells.Room self.now.widest.span.cells self.now.widest.span.end (length slots.old) }
@@ -60,7 +58,7 @@ impl<'a, G: Grammar, W: Weighing> Column<'a, G, W> {
         ensures { columns.Column W.Value.Semiring.ring (by (W.weight self.now.widest.weighing.now)) (G.meaning self.now.widest.grammar.now) self.now.widest.last.bits 0 self.now.upto self.now.widest.span.end slots.old slots.new }
     {
         let used = note_pairs(sums, self.widest.gathered.rules.as_slice());
-        clear_column(slots, self.widest.span, self.upto);
+        self.clear(slots);
         self.fill_rows(slots, &mut sums[0..used]);
     }
 

@@ -8,6 +8,6 @@ pub fill_rows-requires-clause-zero : goal.fill_rows-requires-clause-zero
 fill_rows-requires-clause-zero g c =
     let f = c.args.self.now.widest in
     let ring = g.W.Value.Semiring.ring in
-    let ys = c.clear_column.new.slots in
+    let ys = c.clear.new.slots in
     column_none g.met.W.Value.Semiring.laws (by (g.W.Weighing.weight f.weighing.now)) (g.G.Grammar.meaning f.grammar.now) f.last.bits c.args.self.now.upto f.span.end c.args.slots.now ys
-    (subst (λ n. Cleared ring n f.span.end c.args.self.now.upto c.args.slots.now ys) f.own c.clear_column.ensures)
+    (subst (λ n. Cleared ring n f.span.end c.args.self.now.upto c.args.slots.now ys) f.own c.clear.ensures)

@@ -9,13 +9,14 @@ use Rattle.grammar.specs.Grammars.{Meaning}
 use Rattle.grammar.specs.Derivations.{Tree, leaves}
 use Rattle.grammar.specs.Totals.{by}
 use Rattle.grammar.specs.Spans.{Filled}
-use Rattle.entries.specs.declared.list.Entries.{Entries}
 use Rattle.entries.specs.Model.{state}
+use Rattle.chart.specs.declared.chart.Chart.{Chart}
 use Rattle.chart.specs.Cells.{cell_at}
 use Rattle.tree.specs.declared.node.Node.{Node}
 use Rattle.tree.specs.declared.node.Choice.{Choice}
+use Rattle.tree.specs.declared.node.Attempt.{Attempt}
 use Rattle.tree.specs.declared.record.Record.{Record}
-use Rattle.tree.specs.Rivals.{Rival, First, ByRivals, ByFirst}
+use Rattle.tree.specs.Rivals.{Attains, Rival, First, ByRivals, ByFirst}
 use Rattle.tree.specs.Trees.{records}
 
 -- a node over the span (begin, end) from A
@@ -36,10 +37,18 @@ IsParts (Pair B C) begin k end None = ⊥
 IsParts (Leaf c) begin k end (Some parts) = ⊥
 IsParts (Leaf c) begin k end None = Unit {0}
 
--- a node of a chart with the entries e: its span is among them, and its nonterminal is one of the chart's
-pub record InUse (e : Entries) (node : Node) : Type 0 where
-  pub within : node.end ≤ e.count
-  pub named : node.nonterminal < e.nonterminals
+-- the entries of a chart
+abbrev pub entries_of : {g : _} → Chart Cost g → List ℕ
+entries_of chart = (state chart.entries).entries
+
+-- the cost of each cell of a chart
+abbrev pub cells_of : {g : _} → Chart Cost g → ℕ → ℕ → ℕ → Cost
+cells_of chart = cell_at cost chart.entries.nonterminals chart.slots.cells.now
+
+-- a node is in use in a chart: its span is among the entries, and its nonterminal is one of the chart's
+pub record InUse {g : _} (chart : Chart Cost g) (node : Node) : Type 0 where
+  pub within : node.end ≤ chart.entries.count
+  pub named : node.nonterminal < chart.entries.nonterminals
 
 -- a test says whether P holds
 abbrev pub Says : Bool → Type 0 → Type 0
@@ -57,9 +66,17 @@ pub record StartAttains (m : Meaning) (n : ℕ) (cell : ℕ → Cost) (v A : ℕ
   pub start : m.start A ≡ true
   pub costs : (cell A).value ≡ v
 
--- the rivals at a node of a chart with the entries e and the slots xs, which is shown the grammar m and the weights of a weighing
-abbrev pub ChartRival : (ℕ → ℕ → Cost) → Meaning → Entries → List Cost → Node → ℕ → ℕ → Type 0
-ChartRival weight m e xs node = Rival (by weight) m (state e).entries (cell_at cost e.nonterminals xs) node.begin node.end node.nonterminal
+-- the same of the cells of a chart that span its first `end` entries
+abbrev pub ChartStart : {g : _} → Meaning → Chart Cost g → ℕ → Cost → ℕ → Type 0
+ChartStart m chart end value = StartAttains m m.nonterminals (cells_of chart 0 end) value.value
+
+-- a rule with this expansion, tried at a node of a chart and cut at k, attains the cost of the node's cell
+abbrev pub ChartAttains : {g : _} → Chart Cost g → Attempt → Expansion → ℕ → Type 0
+ChartAttains chart tried x = Attains (entries_of chart) (cells_of chart) tried.weight tried.value.value tried.node.begin tried.node.end x
+
+-- the rivals at a node of a chart, which is shown the grammar m and the weights of a weighing
+abbrev pub ChartRival : {g : _} → (ℕ → ℕ → Cost) → Meaning → Chart Cost g → Node → ℕ → ℕ → Type 0
+ChartRival weight m chart node = Rival (by weight) m (entries_of chart) (cells_of chart) node.begin node.end node.nonterminal
 
 -- a choice is the rival of rule number i with the smallest cut
 pub record PickedOne (R : ℕ → ℕ → Type 0) (m : Meaning) (i : ℕ) (c : Choice) : Type 0 where
@@ -104,5 +121,5 @@ pub record Wrote (weigh : Rule → Cost) (m : Meaning) (es : List ℕ) (cell : �
   pub taken : Filled cost weigh m es cell → (cell begin end A).value < none → Taken weigh m es cell begin end A part
 
 -- the same at a node of a chart
-abbrev pub ChartWrote : (ℕ → ℕ → Cost) → Meaning → Entries → List Cost → List Record → ℕ → Node → List Record → Type 0
-ChartWrote weight m e xs old at node new = Wrote (by weight) m (state e).entries (cell_at cost e.nonterminals xs) old at node.begin node.end node.nonterminal new
+abbrev pub ChartWrote : {g : _} → (ℕ → ℕ → Cost) → Meaning → Chart Cost g → List Record → ℕ → Node → List Record → Type 0
+ChartWrote weight m chart old at node new = Wrote (by weight) m (entries_of chart) (cells_of chart) old at node.begin node.end node.nonterminal new

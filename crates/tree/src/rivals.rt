@@ -1,12 +1,10 @@
 // The choices that attain a cell's cost, and the first of them.
-ghost use Rattle.std.specs.Prelude.{◌≡◌, ◌<◌, ◌≤◌};
-ghost use Rattle.semiring.specs.Costs.{cost};
-ghost use Rattle.chart.specs.Cells.{cell_at, Names};
-ghost use Rattle.entries.specs.Model.{state};
-ghost use Rattle.tree.specs.Rivals.{LeafAttains, PairAttains, Attains};
-ghost use Rattle.tree.specs.Steps.{InUse, Says, FirstOf, ChartRival, PickedAt, PickedOf};
+ghost use Rattle.std.specs.Prelude.{◌<◌};
+ghost use Rattle.grammar.specs.declared.rule.Expansion.{Expansion};
+ghost use Rattle.chart.specs.Cells.{Names};
+ghost use Rattle.tree.specs.Steps.{InUse, Says, FirstOf, ChartAttains, ChartRival, PickedAt, PickedOf};
 
-use super::node::{Choice, Node};
+use super::node::{Attempt, Choice, Node};
 use super::reading::Reading;
 use grammar::grammar::Grammar;
 use grammar::rule::Expansion;
@@ -14,22 +12,13 @@ use grammar::weighing::Weighing;
 use semiring::cost::Cost;
 use semiring::semiring::Semiring;
 
-// A rule that is tried at a node: its weight, and the cost of the node's cell, which it has to attain.
-#[derive(Clone, Copy)]
-struct Attempt {
-    node: Node,
-    weight: Cost,
-    value: Cost,
-}
-
 impl<G: Grammar, W: Weighing<Value = Cost>> Reading<'_, '_, G, W> {
     // Whether a pair rule, cut at `cut`, attains the cost.
     fn pair_attains(&self, tried: Attempt, left: u32, right: u32, cut: usize) -> bool
-        requires after { tried.node.begin < cut }
-        requires before { cut < tried.node.end }
-        requires within { tried.node.end ≤ self.now.chart.now.entries.count }
+        requires inside { (tried.node.begin < cut) × (cut < tried.node.end) }
+        requires used { InUse self.now.chart.now tried.node }
         requires names { Names self.now.chart.now.entries.nonterminals (Expansion.Pair left right) }
-        ensures { Says result (PairAttains (cell_at cost self.now.chart.now.entries.nonterminals self.now.chart.now.slots.cells.now) tried.weight tried.value.value tried.node.begin tried.node.end left right cut) }
+        ensures { Says result (ChartAttains self.now.chart.now tried (Expansion.Pair left right) cut) }
     {
         let l = self.cell(tried.node.front(cut, left));
         let r = self.cell(tried.node.back(cut, right));
@@ -38,9 +27,9 @@ impl<G: Grammar, W: Weighing<Value = Cost>> Reading<'_, '_, G, W> {
 
     // The smallest cut at which a pair rule attains the cost.
     fn first_pair_cut(&self, tried: Attempt, left: u32, right: u32) -> Option<usize>
-        requires within { tried.node.end ≤ self.now.chart.now.entries.count }
+        requires used { InUse self.now.chart.now tried.node }
         requires names { Names self.now.chart.now.entries.nonterminals (Expansion.Pair left right) }
-        ensures { FirstOf (PairAttains (cell_at cost self.now.chart.now.entries.nonterminals self.now.chart.now.slots.cells.now) tried.weight tried.value.value tried.node.begin tried.node.end left right) result }
+        ensures { FirstOf (ChartAttains self.now.chart.now tried (Expansion.Pair left right)) result }
     {
         (tried.node.begin + 1..tried.node.end).find(|&cut| self.pair_attains(
             tried, left, right, cut,
@@ -49,8 +38,8 @@ impl<G: Grammar, W: Weighing<Value = Cost>> Reading<'_, '_, G, W> {
 
     // The cut of a leaf rule, the span's end, where it attains the cost.
     fn leaf_cut(&self, tried: Attempt, code: u8) -> Option<usize>
-        requires within { tried.node.end ≤ self.now.chart.now.entries.count }
-        ensures { FirstOf (LeafAttains (state self.now.chart.now.entries).entries tried.weight tried.value.value tried.node.begin tried.node.end code) result }
+        requires { InUse self.now.chart.now tried.node }
+        ensures { FirstOf (ChartAttains self.now.chart.now tried (Expansion.Leaf code)) result }
     {
         let node = tried.node;
         let attains = node.begin + 1 == node.end
@@ -61,9 +50,9 @@ impl<G: Grammar, W: Weighing<Value = Cost>> Reading<'_, '_, G, W> {
 
     // The smallest cut at which a rule attains the cost.
     fn first_cut(&self, tried: Attempt, expansion: Expansion) -> Option<usize>
-        requires within { tried.node.end ≤ self.now.chart.now.entries.count }
+        requires used { InUse self.now.chart.now tried.node }
         requires names { Names self.now.chart.now.entries.nonterminals expansion }
-        ensures { FirstOf (Attains (state self.now.chart.now.entries).entries (cell_at cost self.now.chart.now.entries.nonterminals self.now.chart.now.slots.cells.now) tried.weight tried.value.value tried.node.begin tried.node.end expansion) result }
+        ensures { FirstOf (ChartAttains self.now.chart.now tried expansion) result }
     {
         match expansion {
             Expansion::Leaf { code } => self.leaf_cut(tried, code),
@@ -73,8 +62,8 @@ impl<G: Grammar, W: Weighing<Value = Cost>> Reading<'_, '_, G, W> {
 
     // The rival of the rule at this number with the smallest cut, if there is one.
     fn rival_of(&self, node: Node, number: u32) -> Option<Choice>
-        requires { InUse self.now.chart.now.entries node }
-        ensures { PickedAt (ChartRival (W.weight self.now.weighing.now) (G.meaning self.now.grammar.now) self.now.chart.now.entries self.now.chart.now.slots.cells.now node) (G.meaning self.now.grammar.now) number result }
+        requires { InUse self.now.chart.now node }
+        ensures { PickedAt (ChartRival (W.weight self.now.weighing.now) (G.meaning self.now.grammar.now) self.now.chart.now node) (G.meaning self.now.grammar.now) number result }
     {
         let rule = self.grammar.rule(number)?;
         if rule.lhs != node.nonterminal {
@@ -91,8 +80,8 @@ impl<G: Grammar, W: Weighing<Value = Cost>> Reading<'_, '_, G, W> {
 
     // The first rival at a node, if there is one: by rule number, then by cut.
     pub(crate) fn first_rival(&self, node: Node) -> Option<Choice>
-        requires { InUse self.now.chart.now.entries node }
-        ensures { PickedOf (ChartRival (W.weight self.now.weighing.now) (G.meaning self.now.grammar.now) self.now.chart.now.entries self.now.chart.now.slots.cells.now node) (G.meaning self.now.grammar.now) result }
+        requires { InUse self.now.chart.now node }
+        ensures { PickedOf (ChartRival (W.weight self.now.weighing.now) (G.meaning self.now.grammar.now) self.now.chart.now node) (G.meaning self.now.grammar.now) result }
     {
         (0..self.grammar.bound()).find_map(|number| self.rival_of(node, number))
     }

@@ -1,8 +1,6 @@
 // The start of a tree, and whether there is one with room for its records.
 ghost use Rattle.std.specs.Prelude.{◌≡◌, ◌<◌, ◌≤◌};
-ghost use Rattle.semiring.specs.Costs.{cost};
-ghost use Rattle.chart.specs.Cells.{cell_at};
-ghost use Rattle.tree.specs.Steps.{Says, FirstOf, StartAttains};
+ghost use Rattle.tree.specs.Steps.{Says, FirstOf, ChartStart};
 ghost use Rattle.tree.specs.Trees.{nodes_answer};
 
 use super::reading::Reading;
@@ -31,7 +29,7 @@ impl<G: Grammar, W> Reading<'_, '_, G, W> {
     fn start_attains(&self, a: u32, end: usize, value: Cost) -> bool
         requires some { 0 < end }
         requires within { end ≤ self.now.chart.now.entries.count }
-        ensures { Says result (StartAttains (G.meaning self.now.grammar.now) (G.meaning self.now.grammar.now).nonterminals (cell_at cost self.now.chart.now.entries.nonterminals self.now.chart.now.slots.cells.now 0 end) value.value a) }
+        ensures { Says result (ChartStart (G.meaning self.now.grammar.now) self.now.chart.now end value a) }
     {
         self.grammar.is_start(a) && self.chart.cell(0, end, a) == Some(value)
     }
@@ -40,7 +38,7 @@ impl<G: Grammar, W> Reading<'_, '_, G, W> {
     pub(crate) fn first_start(&self, end: usize, value: Cost) -> Option<u32>
         requires some { 0 < end }
         requires within { end ≤ self.now.chart.now.entries.count }
-        ensures { FirstOf (StartAttains (G.meaning self.now.grammar.now) (G.meaning self.now.grammar.now).nonterminals (cell_at cost self.now.chart.now.entries.nonterminals self.now.chart.now.slots.cells.now 0 end) value.value) result }
+        ensures { FirstOf (ChartStart (G.meaning self.now.grammar.now) self.now.chart.now end value) result }
     {
         (0..self.grammar.nonterminals()).find(|&a| self.start_attains(a, end, value))
     }

@@ -27,9 +27,9 @@ impl Node {
 impl<G: Grammar, W: Weighing<Value = Cost>> Reading<'_, '_, G, W> {
     // Writes the records of the tree below a node from `at` on, as far as there are rivals.
     pub(crate) fn write_tree(&self, node: Node, records: &mut [Record], at: usize)
-        requires used { InUse self.now.chart.now.entries node }
+        requires used { InUse self.now.chart.now node }
         requires fits { at + (2 * (node.end - node.begin) - 1) ≤ length records.old }
-        ensures { ChartWrote (W.weight self.now.weighing.now) (G.meaning self.now.grammar.now) self.now.chart.now.entries self.now.chart.now.slots.cells.now records.old at node records.new }
+        ensures { ChartWrote (W.weight self.now.weighing.now) (G.meaning self.now.grammar.now) self.now.chart.now records.old at node records.new }
     {
         let Some(choice) = self.first_rival(node) else {
             return;

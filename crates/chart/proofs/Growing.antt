@@ -2,20 +2,16 @@
 use Rattle.std.proofs.Common.{◌≡◌, ℕ, ◌+◌, ◌*◌, ◌≤◌, [], ◌∷◌, ◌++◌, length, Ok, sym, ap, ◌∙◌, subst}
 use Rattle.std.proofs.lemmas.List.{length_push, length-set}
 use Rattle.entries.specs.declared.list.Entries.{Entries}
-use Rattle.entries.specs.declared.call.Call.{Call}
 use Rattle.entries.specs.declared.call.Call.TheVariants.{Append, Replace}
 use Rattle.entries.specs.Spans.{triangle}
-use Rattle.entries.specs.Model.{State, state, Terms, after, does, Did}
+use Rattle.entries.specs.Model.{State, state, Terms, Did}
+use Rattle.entries.proofs.Judging.{did_move}
 use Rattle.entries.proofs.Listing.{size}
-
--- the state after an accepted call
-pub did_move : (t : Terms) (e f : Entries) (call : Call) → Did t e call (Ok tt) f → state f ≡ does (state e) call
-did_move t e f call did = did.moved ∙ ap (λ r. after r (state e) call) (sym did.answered)
 
 module _ (t : Terms) (e f : Entries) (bits : ℕ) (did : Did t e (Append bits) (Ok tt) f) where
   -- the entries after an accepted append
   pub more_entries : (state f).entries ≡ (state e).entries ++ (bits ∷ [])
-  more_entries = ap (λ (s : State). s.entries) (did_move t e f (Append bits) did)
+  more_entries = ap (λ (s : State). s.entries) (did_move did)
 
   pub one_more : f.count ≡ e.count + 1
   one_more = sym (size f) ∙ ap length more_entries ∙ length_push (state e).entries bits ∙ ap (λ k. k + 1) (size e)
@@ -23,7 +19,7 @@ module _ (t : Terms) (e f : Entries) (bits : ℕ) (did : Did t e (Append bits) (
 -- a replaced entry leaves as many as there were
 pub same_many : (t : Terms) (e f : Entries) (k bits : ℕ) → Did t e (Replace k bits) (Ok tt) f → f.count ≡ e.count
 same_many t e f k bits did =
-    sym (size f) ∙ ap (λ (s : State). length s.entries) (did_move t e f (Replace k bits) did) ∙ length-set (state e).entries k bits ∙ size e
+    sym (size f) ∙ ap (λ (s : State). length s.entries) (did_move did) ∙ length-set (state e).entries k bits ∙ size e
 
 -- room, where the numbers are called otherwise
 pub room_at : {count count' n n' slots slots' : ℕ} → count ≡ count' → n ≡ n' → slots ≡ slots' → triangle (count + 1) * n ≤ slots → triangle (count' + 1) * n' ≤ slots'

@@ -1,5 +1,5 @@
 -- The total of a chart that stands is that of its derivations from all starts. Assumes nothing.
-use Rattle.std.proofs.Common.{◌≡◌, ℕ, ◌<◌, Bool, true, false, cond, eqb, ◌≢◌, List, [], ◌∷◌, length, IfOk, Ok, Err, Result, sym, ap, ◌∙◌, subst, arith, eq-eqb, ne_eqb, MatchResult}
+use Rattle.std.proofs.Common.{◌≡◌, ℕ, ◌<◌, Bool, true, false, cond, eqb, ◌≢◌, List, [], ◌∷◌, length, IfOk, Ok, Err, Result, sym, ap, subst, arith, ne_eqb, MatchResult}
 use Rattle.semiring.specs.Semirings.{Operations, Laws}
 use Rattle.grammar.specs.declared.refusal.Refusal.{Refusal}
 use Rattle.grammar.specs.declared.refusal.Refusal.TheVariants.{OtherGrammar}
@@ -17,13 +17,6 @@ use Rattle.chart.specs.Cells.{cell_at}
 use Rattle.entries.specs.Model.{state}
 use Rattle.chart.specs.Reads.{whole_total, total_answer}
 use Rattle.entries.proofs.Listing.{size}
-
--- the value that the call answers
-pub answered : {S : Type 0} (s : Operations S) (m : Meaning) (n count : ℕ) (xs : List S) (v : S) → m.nonterminals ≡ n → v ≡ whole_total s m count xs → Ok v ≡ total_answer s m n count xs
-answered s m n count xs v same is = ap Ok is ∙ sym (ap (λ b. cond b (Ok (whole_total s m count xs)) (Err OtherGrammar)) (eq-eqb m.nonterminals n same))
-
-pub none_whole : {S : Type 0} (s : Operations S) (m : Meaning) (count : ℕ) (xs : List S) → count ≡ 0 → whole_total s m count xs ≡ s.zero
-none_whole s m count xs e = ap (λ b. cond b s.zero (start_sum s m (cell_at s m.nonterminals xs 0 count))) (eq-eqb count 0 e)
 
 pub some_whole : {S : Type 0} (s : Operations S) (m : Meaning) (count : ℕ) (xs : List S) → count ≢ 0 → whole_total s m count xs ≡ start_sum s m (cell_at s m.nonterminals xs 0 count)
 some_whole s m count xs e = ap (λ b. cond b s.zero (start_sum s m (cell_at s m.nonterminals xs 0 count))) (ne_eqb count 0 e)

@@ -10,6 +10,10 @@ use Rattle.entries.proofs.Listing.{size}
 pub accepted : (t : Terms) (e f : Entries) (call : Call) → answer t (state e) call ≡ Ok tt → state f ≡ does (state e) call → f.nonterminals ≡ e.nonterminals → Did t e call (Ok tt) f
 accepted t e f call said moved own = record { answered = sym said; moved = moved ∙ sym (ap (λ r. after r (state e) call) said); own = own }
 
+-- the state after a call, by its answer
+pub did_move : {t : Terms} {e f : Entries} {call : Call} {r : Result (Unit {0}) Refusal} → Did t e call r f → state f ≡ after r (state e) call
+did_move {e = e} {call = call} did = did.moved ∙ ap (λ r. after r (state e) call) (sym did.answered)
+
 -- a refused call left e as it was
 pub refused : (t : Terms) (e : Entries) (call : Call) (why : Refusal) → answer t (state e) call ≡ Err why → Did t e call (Err why) e
 refused t e call why said = record { answered = sym said; moved = sym (ap (λ r. after r (state e) call) said); own = λ i. e.nonterminals }

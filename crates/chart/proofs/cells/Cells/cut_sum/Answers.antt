@@ -5,9 +5,12 @@ use Rattle.chart.proofs.cells.Cells.cut_sum.Goals as goal
 
 pub loop-cut-init : goal.loop-cut-init
 loop-cut-init g c =
-    let s = c.args.self.now.span in
+    let a = c.args.self.now in
+    let s = a.span in
+    let ring = g.S.Semiring.ring in
     let none : s.begin + 1 - (s.begin + 1) ≡ 0 = omega arith in
-    rw none (rw sum_none cc)
+    let nothing = sum_none ring (cut_product ring (cell_at ring s.cells a.slots.now) s.begin s.end c.args.left c.args.right) in
+    cc
 
 pub loop-cut-preserved : goal.loop-cut-preserved
 loop-cut-preserved g c =

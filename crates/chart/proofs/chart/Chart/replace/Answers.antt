@@ -3,12 +3,12 @@ use Rattle.grammar.specs.Spans.{Stands}
 use Rattle.grammar.specs.Totals.{by}
 use Rattle.entries.specs.declared.call.Call.TheVariants.{Replace}
 use Rattle.entries.specs.Model.{State, state, terms, Did}
-use Rattle.entries.proofs.Judging.{on_err}
+use Rattle.entries.proofs.Judging.{did_move, on_err}
 use Rattle.entries.proofs.Listing.{size}
 use Rattle.chart.specs.Cells.{cell_at, Room}
 use Rattle.chart.specs.Columns.{Refilled}
 use Rattle.chart.proofs.Fewer.{same_chart}
-use Rattle.chart.proofs.Growing.{did_move, same_many, room_at}
+use Rattle.chart.proofs.Growing.{same_many, room_at}
 use Rattle.chart.proofs.Replacing.{stands_replaced}
 use Rattle.chart.proofs.chart.Chart.replace.Goals as goal
 
@@ -41,7 +41,7 @@ returns-clause-stands g c before =
     let xs = c.args.self.now.slots.cells.now in
     let ys = c.refill.new.self.cells.now in
     let did = c.in_ok-replace.ensures.did (length xs) in
-    let here : (state f).entries ≡ set (state e).entries k bits = ap (λ (s : State). s.entries) (did_move (terms m e.nonterminals (length xs)) e f (Replace k bits) did) in
+    let here : (state f).entries ≡ set (state e).entries k bits = ap (λ (s : State). s.entries) (did_move did) in
     let long : f.count ≡ length (set (state e).entries k bits) = sym (size f) ∙ ap length here in
     let refilled = subst (λ n. Refilled ring w m (set (state e).entries k bits) k (n + 1) xs ys) long (subst (λ l. Refilled ring w m l k (f.count + 1) xs ys) here c.refill.ensures.filled) in
     subst (λ es. Stands ring w m es (cell_at ring m.nonterminals ys)) (sym here)

@@ -1,4 +1,4 @@
-use Rattle.std.proofs.Common.{◌≡◌, ◌+◌, ◌-◌, sym, ap, ◌∙◌, ap₂, rules}
+use Rattle.std.proofs.Common.{◌≡◌, ◌+◌, ◌-◌, ap, ◌∙◌, rules}
 use Rattle.semiring.specs.Semirings.{sum_below}
 use Rattle.semiring.proofs.Sums.{sum_none}
 use Rattle.grammar.specs.Spans.{share, cut_term}
@@ -27,6 +27,7 @@ returns-else-is_single g c =
     let ring = g.W.Value.Semiring.ring in
     let weight = by (g.W.Weighing.weight f.weighing.now) c.args.rule.now in
     let cell = cell_at ring s.cells c.args.slots.now in
-    c.mul.ensures ∙ ap₂ ring.times c.weigh.ensures c.known_sum-sum.ensures
-    ∙ times-sum g.met.W.Value.Semiring.laws weight _ (cut_product ring cell s.begin s.end c.in-Pair.left c.in-Pair.right)
-    ∙ ap (share ring cell weight f.last.bits s.begin s.end) (sym c.in-Pair.is)
+    let product = cut_product ring cell s.begin s.end c.in-Pair.left c.in-Pair.right in
+    let shared = times-sum g.met.W.Value.Semiring.laws weight (s.end - (s.begin + 1)) product in
+    let is = ap (share ring cell weight f.last.bits s.begin s.end) c.in-Pair.is in
+    cc

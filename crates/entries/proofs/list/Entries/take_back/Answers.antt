@@ -1,7 +1,7 @@
-use Rattle.std.proofs.Common.{◌≡◌, Ok, ◌∙◌, rules}
+use Rattle.std.proofs.Common.{◌≡◌, Ok, refl, ◌∙◌, rules}
 use Rattle.entries.specs.declared.call.Call.TheVariants.{TakeBack}
 use Rattle.entries.specs.Model.{state, does, answer}
-use Rattle.entries.proofs.Fronts.{taken_back}
+use Rattle.entries.proofs.Fronts.{fewer}
 use Rattle.entries.proofs.Judging.{accepted}
 use Rattle.entries.proofs.Listing.{size, shorter, state_of}
 use Rattle.entries.proofs.list.Entries.take_back.Goals as goal
@@ -16,4 +16,4 @@ returns-clause-did c t =
     accepted t e f TakeBack said moved c.pop.ensures.own_is
 
 pub returns-clause-front : goal.returns-clause-front
-returns-clause-front c = taken_back _ _ (Ok tt) (returns-clause-did c)
+returns-clause-front c = fewer TakeBack _ _ refl (returns-clause-did c)

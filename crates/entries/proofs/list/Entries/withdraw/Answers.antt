@@ -1,7 +1,8 @@
-use Rattle.std.proofs.Common.{◌≡◌, Ok, Err, sym, ap, ◌∙◌, subst, rules}
+use Rattle.std.proofs.Common.{◌≡◌, Err, sym, refl, ap, ◌∙◌, subst, rules}
 use Rattle.entries.specs.declared.call.Call.TheVariants.{Keep, Withdraw}
 use Rattle.entries.specs.Model.{State, state, but_last, after, does, Did}
-use Rattle.entries.proofs.Fronts.{withdrawn}
+use Rattle.entries.proofs.Fronts.{fewer}
+use Rattle.entries.proofs.Judging.{did_move}
 use Rattle.entries.proofs.Listing.{shorter, state_of}
 use Rattle.entries.proofs.list.Entries.withdraw.Goals as goal
 
@@ -11,7 +12,7 @@ returns-clause-did c t =
     let k = c.keep.new.self in
     let f = c.pop.new.self in
     let kept = c.in_ok-keep.ensures.did t in
-    let marked : state k ≡ does (state e) Keep = kept.moved ∙ ap (λ r. after r (state e) Keep) (sym kept.answered) in
+    let marked : state k ≡ does (state e) Keep = did_move kept in
     let moved : state f ≡ does (state e) Withdraw =
     state_of f c.pop.ensures ∙ (λ i. record { entries = (shorter k ∙ ap (λ (s : State). but_last s.entries) marked) i; trial = (marked i).trial }) in
     record {
@@ -21,7 +22,7 @@ returns-clause-did c t =
     }
 
 pub returns-clause-front : goal.returns-clause-front
-returns-clause-front c = withdrawn _ _ (Ok tt) (returns-clause-did c)
+returns-clause-front c = fewer Withdraw _ _ refl (returns-clause-did c)
 
 pub returns-in_err-keep-clause-did : goal.returns-in_err-keep-clause-did
 returns-in_err-keep-clause-did c t =
@@ -30,6 +31,6 @@ returns-in_err-keep-clause-did c t =
     let is : c.from_residual.result ≡ Err c.in_err-keep.field-0.0 = search rules in
     subst (λ r. Did t e Withdraw r c.keep.new.self) (sym is) (record {
       answered = kept.answered;
-      moved = kept.moved ∙ ap (λ r. after r (state e) Keep) (sym kept.answered) ∙ ap (λ r. after r (state e) Withdraw) kept.answered;
+      moved = did_move kept ∙ ap (λ r. after r (state e) Withdraw) kept.answered;
       own = kept.own;
     })

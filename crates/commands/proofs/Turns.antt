@@ -1,14 +1,14 @@
 -- One command more is read. Assumes nothing.
-use Rattle.std.proofs.Common.{◌≡◌, ℕ, ◌<◌, ◌≤◌, true, false, ◌⊎◌, List, [], ◌∷◌, ◌++◌, length, drop, Some, None, Ok, Err, Option, Result, sym, refl, ap, ◌∙◌, subst, inl, inr, append_assoc, append-nil, arith, length-append, length-drop, drop_of_length-le, MatchOption}
+use Rattle.std.proofs.Common.{◌≡◌, ℕ, ◌<◌, ◌≤◌, true, false, ◌⊎◌, List, [], ◌∷◌, ◌++◌, length, drop, Some, None, Ok, Err, Option, Result, sym, ap, ◌∙◌, subst, inl, inr, append_assoc, append-nil, arith, length-append, length-drop, drop_of_length-le}
 use lib.Seq.{drop-append_seam}
-use Rattle.std.proofs.lemmas.Bool.{both_ways, true≢false, not-true, and_parts}
+use Rattle.std.proofs.lemmas.Bool.{both_ways}
 use Rattle.commands.specs.declared.command.Command.{Command}
 use Rattle.commands.specs.declared.fault.Fault.{Fault}
 use Rattle.commands.specs.declared.reader.Reader.{Reader}
 use Rattle.commands.specs.declared.stage.Stage.{Stage}
-use Rattle.commands.specs.declared.stage.Stage.TheVariants.{Declaring, Describing, Entries, Ended}
+use Rattle.commands.specs.declared.stage.Stage.TheVariants.{Ended}
 use Rattle.commands.specs.Format.{encode, encodes, Begins}
-use Rattle.commands.specs.Order.{some, begun, going, allowed}
+use Rattle.commands.specs.Order.{allowed}
 use Rattle.commands.specs.Jobs.{Ends, Job, Breaks, FaultAt}
 use Rattle.commands.specs.Stages.{next_stage, Stands}
 use Rattle.commands.specs.Readers.{left, Took, Finished, Halted, Stopped, Steps, HasRead, Reads}
@@ -24,17 +24,14 @@ encodes_long (c ∷ cs) = omega (arith, encode_some c, encodes_long cs, length-a
 
 -- after the end the stage is the last
 pub ended_stage : (before : List Command) (s : Stage) → Stands before s → Ends before → s ≡ Ended
-ended_stage before Declaring h e = absurd (true≢false (sym (came before e) ∙ ap (some 0x0B) h))
-ended_stage before (Describing a r) h e = absurd (both_ways (some 0x0B before) (not-true _ (and_parts (begun before) _ (and_parts (going before) _ h.0).0).1) (came before e))
-ended_stage before Entries h e = absurd (both_ways (some 0x0B before) (not-true _ (and_parts (begun before) _ h.0).1) (came before e))
-ended_stage before Ended h e = refl
+ended_stage before s h e = grind (arith, came before e)
 
 -- what a stage lets through may come, and what it does not may not
 let_through : (before : List Command) (s t : Stage) (c : Command) → Stands before s → next_stage s c ≡ Some t → (allowed before c ≡ true) × Stands (before ++ (c ∷ [])) t
-let_through before s t c h e = subst (λ o. MatchOption o (allowed before c ≡ false) (λ t. (allowed before c ≡ true) × Stands (before ++ (c ∷ [])) t)) e (goes_right s c before h)
+let_through before s t c h e = rw e at (goes_right s c before h)
 
 pub kept_out : (before : List Command) (s : Stage) (c : Command) → Stands before s → next_stage s c ≡ None → allowed before c ≡ false
-kept_out before s c h e = subst (λ o. MatchOption o (allowed before c ≡ false) (λ t. (allowed before c ≡ true) × Stands (before ++ (c ∷ [])) t)) e (goes_right s c before h)
+kept_out before s c h e = rw e at (goes_right s c before h)
 
 -- what follows is cut off behind one command more
 cut : (input : List ℕ) (before : List Command) (place : ℕ) (c : Command) (rest : List ℕ) → input ≡ encodes before ++ drop place input → Begins (drop place input) c rest

@@ -1,5 +1,5 @@
 -- No command is the beginning of another. Assumes nothing.
-use Rattle.std.proofs.Common.{◌≡◌, ℕ, ◌+◌, ◌*◌, ◌/◌, ◌%◌, ◌^◌, true, cond, eqb, List, [], ◌∷◌, ◌++◌, length, get_or, drop, sym, refl, ap, ◌∙◌, subst, append_assoc, append-nil, arith}
+use Rattle.std.proofs.Common.{◌≡◌, ℕ, ◌+◌, ◌*◌, ◌/◌, ◌%◌, ◌^◌, true, cond, eqb, List, [], ◌∷◌, ◌++◌, length, get_or, drop, sym, ap, ◌∙◌, subst, append_assoc, append-nil, arith}
 use lib.Seq.{drop-append_seam}
 use Rattle.commands.specs.declared.command.Command.{Command}
 use Rattle.commands.specs.declared.command.Command.TheVariants.{Grammar, Pair, Leaf, Ban, Automaton, Step, Renaming, Reading, Entry, End}
@@ -27,16 +27,7 @@ four_back : (n : ℕ) → ((n / 2 ^ 24 * 256 + n / 2 ^ 16 % 256) * 256 + n / 2 ^
 four_back n = omega arith
 
 front_is : (c : Command) (rest : List ℕ) → front (encode c ++ rest) ≡ c
-front_is (Grammar n t start) rest = refl
-front_is (Pair lhs left right cost) rest = ap (λ n. Pair lhs left right n) (two_back cost)
-front_is (Leaf lhs code cost) rest = ap (λ n. Leaf lhs code n) (two_back cost)
-front_is (Ban number) rest = ap (λ n. Ban n) (two_back number)
-front_is (Automaton q k start accept) rest = refl
-front_is (Step from code to) rest = refl
-front_is (Renaming count) rest = refl
-front_is (Reading recorder code) rest = refl
-front_is (Entry bits) rest = ap (λ n. Entry n) (four_back bits)
-front_is End rest = refl
+front_is c rest = grind (arith, two_back, four_back)
 
 pub same_command : (bs : List ℕ) (c d : Command) (r s : List ℕ) → bs ≡ encode c ++ r → bs ≡ encode d ++ s → c ≡ d
 same_command bs c d r s p q = sym (front_is c r) ∙ ap front (sym p ∙ q) ∙ front_is d s

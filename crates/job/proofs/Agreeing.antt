@@ -88,7 +88,7 @@ module _ (input : List ℕ) where
   over : (why : Refusal) (p : ℕ) (x : Refuses input why p) (c : Command) → x.command ≡ c → refusal (describe nothing x.before) c ≡ None → ⊥
   over why p x c e l =
       let no : Some why ≡ None = sym x.refused ∙ ap (refusal (describe nothing x.before)) e ∙ l in
-      let z : ◌≡◌ {A = ℕ} 0 1 = cc in omega arith
+      cc
 
   abbrev of_refuses : (why : Refusal) (p : ℕ) → Refuses input why p → Way input
   of_refuses why p x = record {

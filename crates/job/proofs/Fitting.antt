@@ -1,6 +1,6 @@
 -- Every entry of a job that is taken is accepted by a chart for the job's grammar. Assumes nothing.
-use Rattle.std.proofs.Common.{◌≡◌, ℕ, ◌+◌, ◌≤◌, true, false, cond, not, ◌||◌, List, [], ◌∷◌, ◌++◌, map, length, None, Ok, Err, sym, refl, ap, ◌∙◌, subst, append_assoc, append-nil, add-zero, zero-add, arith, eq-eqb, Some, ◌*◌, leb, ltb, ltb-true}
-use Rattle.std.proofs.lemmas.Bool.{true≢false, not-false, not-true, and_parts, or_parts}
+use Rattle.std.proofs.Common.{◌≡◌, ℕ, ◌+◌, ◌≤◌, true, false, cond, not, List, [], ◌∷◌, ◌++◌, map, length, None, Ok, Err, sym, refl, ap, ◌∙◌, subst, append_assoc, append-nil, add-zero, zero-add, arith, eq-eqb, Some, ◌*◌, leb, ltb, ltb-true}
+use Rattle.std.proofs.lemmas.Bool.{not-false, not-true, and_parts}
 use Rattle.std.proofs.lemmas.List.{length_push}
 use Rattle.grammar.specs.declared.refusal.Refusal.TheVariants.{BadEntry, TrialOpen, NoRoom, OtherGrammar}
 use Rattle.grammar.specs.Grammars.{Meaning}
@@ -9,8 +9,8 @@ use Rattle.entries.specs.Spans.{triangle, full}
 use Rattle.entries.specs.Model.{State, terms, verdict, entry_tests, improper, after}
 use Rattle.runs.specs.Runs.{run}
 use Rattle.commands.specs.declared.command.Command.{Command}
-use Rattle.commands.specs.declared.command.Command.TheVariants.{Grammar, Pair, Leaf, Ban, Automaton, Step, Renaming, Reading, Entry, End}
 use Rattle.commands.specs.Order.{is, some, going, describing, allowed, Ordered}
+use Rattle.commands.proofs.Stages.{some_push}
 use Rattle.job.specs.Appending.{appended}
 use Rattle.job.specs.Describing.{Described, nothing, entry_refusal, nonterminals_of, codes_of, refusal, taken, describe, Passes}
 use Rattle.job.specs.Outcomes.{Takes}
@@ -55,11 +55,7 @@ abbrev pub Fits : Described → Type 0
 Fits d = Fitting (nonterminals_of d) (codes_of d) 0 d.entries
 
 some_front : (byte : ℕ) (cs : List Command) (c : Command) → some byte (cs ++ (c ∷ [])) ≡ false → (some byte cs ≡ false) × (is byte c ≡ false)
-some_front byte [] c e = (refl, (or_parts (is byte c) false e).0)
-some_front byte (x ∷ xs) c e =
-    let p = or_parts (is byte x) _ e in
-    let q = some_front byte xs c p.1 in
-    ((λ i. p.0 i || q.0 i), q.1)
+some_front byte cs c e = grind (arith, some_push byte cs c)
 
 -- before the first entry there are none
 abbrev Quiet : List Command → Described → Type 0
@@ -74,28 +70,11 @@ module _ (before : List Command) (d : Described) (quiet : Quiet before d) where
   none_yet n t h = subst (Fitting n t 0) (sym (quiet (described_quiet before h))) tt
 
   fits_taken : (c : Command) → allowed before c ≡ true → refusal d c ≡ None → Fits d → Fits (taken d c)
-  fits_taken (Grammar n t start) a e f = tt
-  fits_taken (Pair lhs left right cost) a e f = f
-  fits_taken (Leaf lhs code cost) a e f = f
-  fits_taken (Ban number) a e f = f
-  fits_taken (Automaton q k start accepting) a e f = none_yet _ _ (and_parts (describing before) _ a).0
-  fits_taken (Step from code to) a e f = none_yet _ _ (and_parts (describing before) _ a).0
-  fits_taken (Renaming count) a e f = none_yet _ _ (and_parts (describing before) _ a).0
-  fits_taken (Reading b r) a e f = none_yet _ _ (and_parts (describing before) _ a).0
-  fits_taken (Entry bits) a e f = fitting_push _ _ 0 d.entries bits f (ap (λ k. entry_refusal (nonterminals_of d) (codes_of d) k bits) (zero-add (length d.entries)) ∙ e)
-  fits_taken End a e f = f
+  fits_taken c a e f =
+      grind (arith, none_yet, and_parts, fitting_push (nonterminals_of d) (codes_of d) 0 d.entries, zero-add (length d.entries))
 
   quiet_taken : (c : Command) → Quiet (before ++ (c ∷ [])) (taken d c)
-  quiet_taken (Grammar n t start) e = refl
-  quiet_taken (Pair lhs left right cost) e = quiet (some_front 0x0A before _ e).0
-  quiet_taken (Leaf lhs code cost) e = quiet (some_front 0x0A before _ e).0
-  quiet_taken (Ban number) e = quiet (some_front 0x0A before _ e).0
-  quiet_taken (Automaton q k start accepting) e = quiet (some_front 0x0A before _ e).0
-  quiet_taken (Step from code to) e = quiet (some_front 0x0A before _ e).0
-  quiet_taken (Renaming count) e = quiet (some_front 0x0A before _ e).0
-  quiet_taken (Reading b r) e = quiet (some_front 0x0A before _ e).0
-  quiet_taken (Entry bits) e = absurd (true≢false (some_front 0x0A before (Entry bits) e).1)
-  quiet_taken End e = quiet (some_front 0x0A before _ e).0
+  quiet_taken c e = grind (arith, some_front 0x0A before c e)
 
 fits_all : (before cs : List Command) (d : Described) → Ordered before cs → Passes d cs → Quiet before d → Fits d → Fits (describe d cs)
 fits_all before [] d o p q f = f

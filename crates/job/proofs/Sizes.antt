@@ -17,16 +17,16 @@ use Rattle.job.specs.Describing.{Described, nothing, stack, recorded, or_else, c
 use Rattle.job.specs.Answers.{Renames, Stacks}
 
 pub or_else_none : (a b : Option Refusal) → or_else a b ≡ None → (a ≡ None) × (b ≡ None)
-or_else_none (Some why) b e = let z : ◌≡◌ {A = ℕ} 0 1 = cc in absurd (omega arith)
+or_else_none (Some why) b e = absurd (cc)
 or_else_none None b e = (refl, e)
 
 pub if_none : (b : Bool) (why : Refusal) → cond b (Some why) None ≡ None → b ≡ false
-if_none true why e = let z : ◌≡◌ {A = ℕ} 0 1 = cc in absurd (omega arith)
+if_none true why e = cc
 if_none false why e = refl
 
 unless_none : (b : Bool) (why : Refusal) → cond b None (Some why) ≡ None → b ≡ true
 unless_none true why e = refl
-unless_none false why e = let z : ◌≡◌ {A = ℕ} 0 1 = cc in absurd (omega arith)
+unless_none false why e = cc
 
 -- the automaton has as many codes as the table
 abbrev pub Wide : Described → Type 0

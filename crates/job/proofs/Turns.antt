@@ -1,14 +1,13 @@
 -- One command more is read and taken, or the job is faulted. Assumes nothing.
-use Rattle.std.proofs.Common.{◌≡◌, ℕ, ◌<◌, ◌≤◌, true, not, ◌⊎◌, List, [], ◌∷◌, ◌++◌, length, Some, None, sym, refl, ap, ◌∙◌, inl, inr, append_assoc}
-use Rattle.std.proofs.lemmas.Bool.{true≢false}
+use Rattle.std.proofs.Common.{◌≡◌, ℕ, ◌<◌, ◌≤◌, true, ◌⊎◌, List, [], ◌∷◌, ◌++◌, length, Some, None, sym, refl, ap, ◌∙◌, inl, inr, append_assoc, arith}
 use Rattle.commands.specs.declared.command.Command.{Command}
-use Rattle.commands.specs.declared.command.Command.TheVariants.{Grammar, Pair, Leaf, Ban, Automaton, Step, Renaming, Reading, Entry, End}
 use Rattle.commands.specs.declared.fault.Fault.{Fault}
 use Rattle.commands.specs.declared.reader.Reader.{Reader}
 use Rattle.commands.specs.Format.{encode, encodes}
-use Rattle.commands.specs.Order.{begun, allowed}
+use Rattle.commands.specs.Order.{allowed}
 use Rattle.commands.specs.Jobs.{Breaks}
 use Rattle.commands.specs.Readers.{left, Halted, Stopped, HasRead}
+use Rattle.commands.proofs.Stages.{begun_push}
 use Rattle.commands.proofs.Turns.{halted}
 use Rattle.commands.proofs.Unique.{encodes_push}
 use Rattle.job.specs.Describing.{Described, Later, nothing, refusal, taken, describe, Passes}
@@ -22,10 +21,6 @@ describe_push d (x ∷ xs) c = describe_push (taken d x) xs c
 pub passes_push : (d : Described) (cs : List Command) (c : Command) → Passes d cs → refusal (describe d cs) c ≡ None → Passes d (cs ++ (c ∷ []))
 passes_push d [] c p e = (e, tt)
 passes_push d (x ∷ xs) c p e = (p.0, passes_push (taken d x) xs c p.1 e)
-
-begun_push : (cs : List Command) (c : Command) → begun (cs ++ (c ∷ [])) ≡ true
-begun_push [] c = refl
-begun_push (x ∷ xs) c = refl
 
 -- a break at an equal place
 moved : (input : List ℕ) (p q : ℕ) (why : Type 0) → q ≡ p → (b : Breaks input p) → Passes nothing b.before → why → ((b : Breaks input q) × Passes nothing b.before × why)
@@ -43,16 +38,7 @@ stopped r before read passes s f t = faulted t.reason
 module _ (r : Reader) (d : Described) (l : Loading r d) where
   -- what comes once the grammar is declared does not declare it
   pub later : (c : Command) → allowed l.before c ≡ true → Later c
-  later (Grammar n t start) a = true≢false (sym a ∙ ap not l.begun)
-  later (Pair lhs left right cost) a = tt
-  later (Leaf lhs code cost) a = tt
-  later (Ban number) a = tt
-  later (Automaton q k start accepting) a = tt
-  later (Step from code to) a = tt
-  later (Renaming count) a = tt
-  later (Reading b a) m = tt
-  later (Entry bits) a = tt
-  later End a = tt
+  later c a = grind (arith, l.begun)
 
   pub more : (s : Reader) (c : Command) (e : Described) → HasRead s (l.before ++ (c ∷ [])) → refusal d c ≡ None → e ≡ taken d c → Loading s e
   more s c e read ok is = record {

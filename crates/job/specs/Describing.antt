@@ -99,22 +99,6 @@ abbrev pub with_reading : ℕ → ℕ → Option Recorder → Option Recorder
 with_reading b a None = None
 with_reading b a (Some k) = Some (reading_to b a k)
 
--- the description with another table; and so on for its other parts
-abbrev pub with_table : Described → Drafted → Described
-with_table d t = record { table = t; bans = d.bans; machine = d.machine; recorder = d.recorder; entries = d.entries }
-
-abbrev pub with_bans : Described → List ℕ → Described
-with_bans d ns = record { table = d.table; bans = ns; machine = d.machine; recorder = d.recorder; entries = d.entries }
-
-abbrev pub with_machine : Described → Machine → Described
-with_machine d k = record { table = d.table; bans = d.bans; machine = k; recorder = d.recorder; entries = d.entries }
-
-abbrev pub with_recorder : Described → Option Recorder → Described
-with_recorder d c = record { table = d.table; bans = d.bans; machine = d.machine; recorder = c; entries = d.entries }
-
-abbrev pub with_entries : Described → List ℕ → Described
-with_entries d es = record { table = d.table; bans = d.bans; machine = d.machine; recorder = d.recorder; entries = es }
-
 -- one rule more
 abbrev pub with_rule : Drafted → ℕ → Expansion → ℕ → Drafted
 with_rule t lhs expansion cost = with_added t (record { lhs = lhs; expansion = expansion; cost = cost }) (Ok (length t.added))
@@ -122,14 +106,14 @@ with_rule t lhs expansion cost = with_added t (record { lhs = lhs; expansion = e
 -- what an accepted command makes of the description
 abbrev pub taken : Described → Command → Described
 taken d (Grammar n t start) = declared n t start
-taken d (Pair lhs left right cost) = with_table d (with_rule d.table lhs (IntoPair left right) cost)
-taken d (Leaf lhs code cost) = with_table d (with_rule d.table lhs (IntoLeaf code) cost)
-taken d (Ban number) = with_bans d (added number d.bans)
-taken d (Automaton q k start accepting) = with_machine d (table_made q k start accepting)
-taken d (Step from code to) = with_machine d (written_to from code to d.machine)
-taken d (Renaming count) = with_recorder d (Some (readings_made count))
-taken d (Reading b a) = with_recorder d (with_reading b a d.recorder)
-taken d (Entry bits) = with_entries d (d.entries ++ (bits ∷ []))
+taken d (Pair lhs left right cost) = record d { table = with_rule d.table lhs (IntoPair left right) cost }
+taken d (Leaf lhs code cost) = record d { table = with_rule d.table lhs (IntoLeaf code) cost }
+taken d (Ban number) = record d { bans = added number d.bans }
+taken d (Automaton q k start accepting) = record d { machine = table_made q k start accepting }
+taken d (Step from code to) = record d { machine = written_to from code to d.machine }
+taken d (Renaming count) = record d { recorder = Some (readings_made count) }
+taken d (Reading b a) = record d { recorder = with_reading b a d.recorder }
+taken d (Entry bits) = record d { entries = d.entries ++ (bits ∷ []) }
 taken d End = d
 
 -- taking a command answers that it is accepted, or why it is refused; where it is accepted, d becomes what it makes of d

@@ -1,6 +1,5 @@
-use Rattle.std.proofs.Common.{sym, refl, ap, take_all}
+use Rattle.std.proofs.Common.{sym, refl}
 use Rattle.std.proofs.Output.{has_written_append, has_written_of_eq}
-use Rattle.answer.specs.Lines.{node_lines}
 use Rattle.answer.proofs.Nodes.{lines_more}
 use Rattle.answer.proofs.text.NodesDisplay.fmt.Goals as goal
 

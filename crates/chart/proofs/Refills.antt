@@ -1,6 +1,7 @@
 -- One column more, filled anew up to entry k. Assumes nothing.
-use Rattle.std.proofs.Common.{◌≡◌, ℕ, ◌+◌, ◌-◌, ◌<◌, List, get_or, sym, ap, ◌∙◌, subst, inl, inr, arith}
+use Rattle.std.proofs.Common.{◌≡◌, ℕ, ◌+◌, ◌-◌, ◌<◌, ◌≤◌, ◌⊎◌, List, [], ◌∷◌, ◌++◌, length, get_or, sym, ap, ◌∙◌, subst, inl, inr, arith}
 use Rattle.std.proofs.lemmas.Bool.{cases_lt}
+use Rattle.std.proofs.lemmas.List.{get_or_push}
 use Rattle.semiring.specs.Semirings.{Operations, Laws}
 use Rattle.grammar.specs.Grammars.{Meaning, Shown}
 use Rattle.chart.specs.Cells.{place, cell_at}
@@ -33,4 +34,19 @@ module _ {S : Type 0} {ops : Operations S} (laws : Laws ops) (weigh : Rule → S
               (column.cells b a (omega arith) (omega arith) h4
               ∙ ap (λ e. shares ops (cell_at ops n zs) weigh m e b end a m.bound) eb)
         ];
+      }
+
+-- where entry k is the last one, that is the column of the new end
+module _ {S : Type 0} {ops : Operations S} (weigh : Rule → S) (m : Meaning) (es : List ℕ) (bits : ℕ) (xs ys : List S) where
+  pub refilled_last : Refilled ops weigh m (es ++ (bits ∷ [])) (length es) (length es + 2) xs ys → Column ops weigh m bits 0 (length es + 1) (length es + 1) xs ys
+  refilled_last done =
+      let end = length es + 1 in
+      let last : get_or (es ++ (bits ∷ [])) (end - 1) 0 ≡ bits = get_or_push es bits 0 (end - 1) (omega arith) in
+      record {
+        kept = λ q far. done.kept q (λ f low high.
+            let same : end ≡ f = omega arith in
+            subst (λ e. (q < place m.nonterminals 0 e 0) ⊎ (place m.nonterminals end e 0 ≤ q)) same far);
+        cells = λ b a h1 h2 h3. done.cells b end a (omega arith) (omega arith) (omega arith) h3
+            ∙ ap (λ e. shares ops (cell_at ops m.nonterminals ys) weigh m e b end a m.bound) last;
+        zeros = λ b a h1 h2 h3. absurd (omega arith);
       }

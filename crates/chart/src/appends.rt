@@ -29,9 +29,9 @@ impl<'a, S: Semiring> Chart<'a, S> {
         ensures named { self.new.slots.cells.ghost_name ≡ self.old.slots.cells.ghost_name }
     {
         let slots = self.slots.len();
-        let entry = self.entries.append(grammar, slots, bits)?;
-        let end = self.entries.len();
-        self.slots.fill(grammar, weighing, end, entry);
+        self.entries.append(grammar, slots, bits)?;
+        let last = self.entries.len() - 1;
+        self.slots.refill(grammar, weighing, &self.entries, last);
         Ok(())
     }
 

@@ -6,12 +6,8 @@ ghost use Rattle.chart.specs.Columns as columns;
 ghost use Rattle.entries.specs.Model.{state};
 
 use super::cells::Cells;
-use super::column::Column;
-use super::filling::Filling;
-use super::gathered::Gathered;
 use super::refilling::refill;
 use super::span::Span;
-use entries::entry::Entry;
 use entries::list::Entries;
 use grammar::grammar::Grammar;
 use grammar::weighing::Weighing;
@@ -41,35 +37,6 @@ impl<'a, S: Semiring> Slots<'a, S> {
             span,
         }
         .value(a)
-    }
-
-    // Fills the spans that end at `end`, whose last entry is `last`.
-    pub(crate) fn fill<G: Grammar, W: Weighing<Value = S>>(
-        &mut self,
-        grammar: &G,
-        weighing: &W,
-        end: usize,
-        last: Entry,
-    )
-        requires room { cells.Room (G.meaning grammar.now).nonterminals end (length self.old.cells.now) }
-        requires some { 0 < end }
-        ensures filled { columns.Column S.ring (by (W.weight weighing.now)) (G.meaning grammar.now) last.bits 0 end end self.old.cells.now self.new.cells.now }
-        ensures long { length self.new.cells.now ≡ length self.old.cells.now }
-        ensures named { self.new.cells.ghost_name ≡ self.old.cells.ghost_name }
-    {
-        let cells = grammar.nonterminals() as usize;
-        let widest = Filling {
-            grammar,
-            weighing,
-            gathered: &Gathered::of(grammar),
-            span: Span {
-                begin: 0,
-                end,
-                cells,
-            },
-            last,
-        };
-        Column { widest, upto: end }.fill(&mut *self.cells);
     }
 
     // Fills anew the spans in use that cover entry `k`.

@@ -10,7 +10,6 @@ mod edits;
 mod filling;
 mod gathered;
 mod reads;
-mod refilling;
 mod replaces;
 mod shares;
 pub mod slots;

@@ -6,7 +6,9 @@ ghost use Rattle.chart.specs.Columns as columns;
 ghost use Rattle.entries.specs.Model.{state};
 
 use super::cells::Cells;
-use super::refilling::refill;
+use super::column::Column;
+use super::filling::Filling;
+use super::gathered::Gathered;
 use super::span::Span;
 use entries::list::Entries;
 use grammar::grammar::Grammar;
@@ -53,6 +55,26 @@ impl<'a, S: Semiring> Slots<'a, S> {
         ensures long { length self.new.cells.now ≡ length self.old.cells.now }
         ensures named { self.new.cells.ghost_name ≡ self.old.cells.ghost_name }
     {
-        refill(&mut *self.cells, grammar, weighing, entries.all(), k);
+        let slots = &mut *self.cells;
+        let gathered = Gathered::of(grammar);
+        let cells = grammar.nonterminals() as usize;
+        for (i, last) in entries.all()[k..].iter().enumerate() {
+            let widest = Filling {
+                grammar,
+                weighing,
+                gathered: &gathered,
+                span: Span {
+                    begin: 0,
+                    end: k + i + 1,
+                    cells,
+                },
+                last: *last,
+            };
+            Column {
+                widest,
+                upto: k + 1,
+            }
+            .fill(slots);
+        }
     }
 }

@@ -28,6 +28,7 @@ impl fmt::Display for Totals {
 impl fmt::Display for Nodes<'_> {
     ghost output = { λ n. Some (node_lines n.records.now) };
 
+    #[tactic(auto, using(crate::proofs::Nodes::lines_more, std::proofs::lemmas::Grind::put_two))]
     fn fmt<W: fmt::Write>(&self, f: &mut fmt::Formatter<W>) -> fmt::Result {
         for Record { begin, end, bottom } in self.records {
             write!(f, "node {begin} {end} {bottom}\n")?;

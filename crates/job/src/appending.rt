@@ -12,7 +12,7 @@ pub(crate) fn appends(entries: &[u32]) -> List<Call, 64>
 {
     let mut calls = List::new(Call::Clear);
     for codes in entries {
-        let _ = calls.push(Call::Append(*codes));
+        calls.push(Call::Append(*codes)).unwrap();
     }
     calls
 }

@@ -53,22 +53,15 @@ fn ask<G: Grammar>(
         &mut [],
         records,
     );
+    // a token can only be handed back
     if let Some(trial) = trial {
         let _ = chart.keep(trial);
     }
-    match total {
-        Ok(count) => (
-            Totals {
-                read: YesNo {
-                    value: !cost.is_none(),
-                },
-                count,
-                cost,
-            },
-            tree,
-        ),
-        Err(_) => unreachable!(),
-    }
+    let Ok(count) = total else { unreachable!() };
+    let read = YesNo {
+        value: !cost.is_none(),
+    };
+    (Totals { read, count, cost }, tree)
 }
 
 // What the calls come to by the grammar.

@@ -129,8 +129,7 @@ impl<'a> Description<'a> {
         ensures { Taking (held self.old) (Command.Entry codes) result (held self.new) }
     {
         check_entry(self.nonterminals(), self.codes(), self.entries.len(), codes)?;
-        let _ = self.entries.push(codes);
-        Ok(())
+        self.entries.push(codes).map_err(|_| Refusal::NoRoom)
     }
 
     // How many nonterminals the job's grammar has.
@@ -145,9 +144,7 @@ impl<'a> Description<'a> {
     fn codes(&self) -> u32
         ensures { result ≡ codes_of (held self.now) }
     {
-        match self.readings {
-            None => self.draft.codes(),
-            Some(readings) => readings.count(),
-        }
+        self.readings
+            .map_or(self.draft.codes(), |readings| readings.count())
     }
 }

@@ -1,5 +1,5 @@
 // Adding an entry at the end, for good or on trial.
-ghost use Rattle.std.specs.Prelude.{◌≡◌, ℕ, ◌+◌, false, length, IfOk, MatchResult};
+ghost use Rattle.std.specs.Prelude.{◌≡◌, ◌+◌, false, length, IfOk, MatchResult};
 ghost use Rattle.grammar.specs.Totals.{by};
 ghost use Rattle.entries.specs.Model.{terms, plain, Did};
 ghost use Rattle.entries.specs.declared.call.Call.{Call};

@@ -1,5 +1,5 @@
 // Changing the entry at a place.
-ghost use Rattle.std.specs.Prelude.{◌≡◌, ℕ, ◌+◌, length, MatchResult};
+ghost use Rattle.std.specs.Prelude.{◌≡◌, ◌+◌, length, MatchResult};
 ghost use Rattle.grammar.specs.Totals.{by};
 ghost use Rattle.entries.specs.Model.{state, terms, Did};
 ghost use Rattle.entries.specs.declared.call.Call.{Call};

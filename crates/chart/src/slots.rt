@@ -1,5 +1,5 @@
 // The slots that the caller provides.
-ghost use Rattle.std.specs.Prelude.{◌≡◌, ℕ, ◌+◌, ◌<◌, length};
+ghost use Rattle.std.specs.Prelude.{◌≡◌, ◌+◌, ◌<◌, length};
 ghost use Rattle.grammar.specs.Totals.{by};
 ghost use Rattle.chart.specs.Cells as cells;
 ghost use Rattle.chart.specs.Columns as columns;

@@ -1,5 +1,5 @@
 // Sums over cuts that are worked out once for a span: the rules to the same pair share one.
-ghost use Rattle.std.specs.Prelude.{◌≡◌, ◌+◌, ◌<◌, ◌≤◌, length};
+ghost use Rattle.std.specs.Prelude.{◌≡◌, ◌<◌, ◌≤◌, length};
 ghost use Rattle.chart.specs.Cells as cells;
 ghost use Rattle.chart.specs.Sums.{Known, KnownAt};
 

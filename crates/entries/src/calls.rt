@@ -1,6 +1,6 @@
 // The calls: each is tested in order, and does what it does where no test applies.
 ghost use Rattle.std.specs.Prelude.{◌≡◌, ℕ, ◌<◌, true, false, not, [], ◌∷◌, Ok, MatchResult, OnOk, ◌==◌};
-ghost use Rattle.entries.specs.Model.{Terms, terms, test, verdict, entry_tests, replace_tests, state, Admits, Added, Did, Front, Fields, plain};
+ghost use Rattle.entries.specs.Model.{Terms, terms, test, verdict, entry_tests, replace_tests, Admits, Added, Did, Front, Fields, plain};
 ghost use Rattle.entries.specs.declared.call.Call.{Call};
 
 use crate::admission::{is_full, proper_entry};

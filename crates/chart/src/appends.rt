@@ -1,4 +1,5 @@
 // Adding an entry at the end, for good or on trial.
+// `long` and `named` stand at each call: two short equations, and one definition of both would be no plainer.
 ghost use Rattle.std.specs.Prelude.{◌≡◌, ◌+◌, false, length, IfOk, MatchResult};
 ghost use Rattle.grammar.specs.Totals.{by};
 ghost use Rattle.entries.specs.Model.{terms, plain, Did};

@@ -23,5 +23,5 @@ pub on_err : {T : Type 0} (P : T → Type 0) (Q : Refusal → Type 0) (r : Resul
 on_err P Q r why is q = subst (λ x. MatchResult x P Q) (sym is) q
 
 -- the tests of an entry at a place look at how many entries are in use
-pub replace_verdict : (t : Terms) (e : Entries) (k bits : ℕ) (r : Result (Unit {0}) Refusal) → verdict (replace_tests t e.count e.trial k bits) ≡ r → verdict (replace_tests t (length (state e).entries) e.trial k bits) ≡ r
+pub replace_verdict : (t : Terms) (e : Entries) (k bits : ℕ) (r : Result (Unit {0}) Refusal) → verdict (replace_tests t (length e.list.items) e.trial k bits) ≡ r → verdict (replace_tests t (length (state e).entries) e.trial k bits) ≡ r
 replace_verdict t e k bits r said = ap (λ n. verdict (replace_tests t n e.trial k bits)) (size e) ∙ said

@@ -20,7 +20,7 @@ bits_of e = e.bits
 
 -- the state of a list of entries: those in use, and the mark
 abbrev pub state : Entries → State
-state e = record { entries = map bits_of (take e.count e.list); trial = e.trial }
+state e = record { entries = map bits_of e.list.items; trial = e.trial }
 
 -- no entries, and no trial open
 abbrev pub empty : State
@@ -138,8 +138,7 @@ pub record Front (e f : Entries) : Type 0 where
   pub own : f.nonterminals ≡ e.nonterminals
 
 -- what a list of entries holds, field by field
-pub record Fields (e : Entries) (list : List Entry) (count : ℕ) (trial : Bool) (own : ℕ) : Type 0 where
-  pub list_is : e.list ≡ list
-  pub count_is : e.count ≡ count
+pub record Fields (e : Entries) (items : List Entry) (trial : Bool) (own : ℕ) : Type 0 where
+  pub items_are : e.list.items ≡ items
   pub trial_is : e.trial ≡ trial
   pub own_is : e.nonterminals ≡ own

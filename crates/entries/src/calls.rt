@@ -1,5 +1,5 @@
 // The calls: each is tested in order, and does what it does where no test applies.
-ghost use Rattle.std.specs.Prelude.{◌≡◌, ℕ, ◌<◌, true, false, not, [], ◌∷◌, Ok, MatchResult, OnOk, ◌==◌};
+ghost use Rattle.std.specs.Prelude.{◌≡◌, ℕ, ◌<◌, true, false, not, [], ◌∷◌, length, Ok, MatchResult, OnOk, ◌==◌};
 ghost use Rattle.entries.specs.Model.{Terms, terms, test, verdict, entry_tests, replace_tests, Admits, Added, Did, Front, Fields, plain};
 ghost use Rattle.entries.specs.declared.call.Call.{Call};
 
@@ -34,11 +34,11 @@ impl Entries {
 
     // The bits as an entry that may be added.
     fn admit<G: Grammar>(&self, grammar: &G, slots: usize, bits: u32) -> Result<Entry, Refusal>
-        ensures { Admits (verdict (entry_tests (terms (G.meaning grammar.now) self.now.nonterminals slots) self.now.count self.now.trial bits)) bits result }
+        ensures { Admits (verdict (entry_tests (terms (G.meaning grammar.now) self.now.nonterminals slots) (length self.now.list.items) self.now.trial bits)) bits result }
     {
         self.open_to(grammar)?;
         let entry = proper_entry(bits, grammar.codes())?;
-        if is_full(self.count, grammar.nonterminals(), slots) {
+        if is_full(self.list.len(), grammar.nonterminals(), slots) {
             return Err(Refusal::NoRoom);
         }
         Ok(entry)
@@ -46,11 +46,11 @@ impl Entries {
 
     // The bits as an entry that may take the place of entry `k`.
     fn admit_at<G: Grammar>(&self, grammar: &G, k: usize, bits: u32) -> Result<Entry, Refusal>
-        ensures admits { (slots : ℕ) → Admits (verdict (replace_tests (terms (G.meaning grammar.now) self.now.nonterminals slots) self.now.count self.now.trial k bits)) bits result }
-        ensures inside { OnOk result (((G.meaning grammar.now).nonterminals ≡ self.now.nonterminals) × (k < self.now.count)) }
+        ensures admits { (slots : ℕ) → Admits (verdict (replace_tests (terms (G.meaning grammar.now) self.now.nonterminals slots) (length self.now.list.items) self.now.trial k bits)) bits result }
+        ensures inside { OnOk result (((G.meaning grammar.now).nonterminals ≡ self.now.nonterminals) × (k < (length self.now.list.items))) }
     {
         self.open_to(grammar)?;
-        if k >= self.count {
+        if k >= self.list.len() {
             return Err(Refusal::NoEntry);
         }
         proper_entry(bits, grammar.codes())
@@ -64,7 +64,7 @@ impl Entries {
         bits: u32,
     ) -> Result<Entry, Refusal>
         ensures did { Did (terms (G.meaning grammar.now) self.old.nonterminals slots) self.old (Call.Append bits) (plain result) self.new }
-        ensures added { MatchResult result (Added (G.meaning grammar.now) self.old.nonterminals slots self.old.count bits) (λ _. self.new ≡ self.old) }
+        ensures added { MatchResult result (Added (G.meaning grammar.now) self.old.nonterminals slots (length self.old.list.items) bits) (λ _. self.new ≡ self.old) }
     {
         let entry = self.admit(grammar, slots, bits)?;
         self.push(entry);
@@ -74,7 +74,7 @@ impl Entries {
     // Changes the entry at the place `k`.
     pub fn replace<G: Grammar>(&mut self, grammar: &G, k: usize, bits: u32) -> Result<(), Refusal>
         ensures did { (slots : ℕ) → Did (terms (G.meaning grammar.now) self.old.nonterminals slots) self.old (Call.Replace k bits) result self.new }
-        ensures inside { MatchResult result (λ _. ((G.meaning grammar.now).nonterminals ≡ self.old.nonterminals) × (k < self.old.count)) (λ _. self.new ≡ self.old) }
+        ensures inside { MatchResult result (λ _. ((G.meaning grammar.now).nonterminals ≡ self.old.nonterminals) × (k < (length self.old.list.items))) (λ _. self.new ≡ self.old) }
     {
         let entry = self.admit_at(grammar, k, bits)?;
         self.put(k, entry);
@@ -82,12 +82,13 @@ impl Entries {
     }
 
     // Removes the last entry.
+    #[tactic(auto, using(crate::proofs::Fronts::same_front))]
     pub fn take_back(&mut self) -> Result<(), Refusal>
         ensures did { (t : Terms) → Did t self.old Call.TakeBack result self.new }
         ensures front { Front self.old self.new }
     {
         self.closed()?;
-        if self.count == 0 {
+        if self.list.len() == 0 {
             return Err(Refusal::NoEntry);
         }
         self.pop();
@@ -96,7 +97,7 @@ impl Entries {
 
     // Sets the mark, and hands out the token that keep or withdraw takes back.
     pub fn open_trial(&mut self) -> Trial
-        ensures marked { Fields self.new self.old.list self.old.count true self.old.nonterminals }
+        ensures marked { Fields self.new self.old.list.items true self.old.nonterminals }
         ensures unspent { result.spent ≡ false }
     {
         self.mark(true);
@@ -104,6 +105,7 @@ impl Entries {
     }
 
     // Spends the token and clears the mark.
+    #[tactic(auto, using(crate::proofs::Fronts::same_front))]
     pub fn keep(&mut self, trial: Trial) -> Result<(), Refusal>
         ensures did { (t : Terms) → Did t self.old Call.Keep result self.new }
         ensures front { Front self.old self.new }

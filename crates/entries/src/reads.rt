@@ -1,10 +1,11 @@
 // Making a list of entries, and what it answers.
-ghost use Rattle.std.specs.Prelude.{◌≡◌, ℕ, ◌<◌, ◌≤◌, map, length, take, MatchOption, slice_index, slice_index_or};
+ghost use Rattle.std.specs.Prelude.{◌≡◌, ℕ, ◌<◌, ◌≤◌, map, length, MatchOption, slice_index, slice_index_or};
 ghost use Rattle.entries.specs.Model.{state, bits_of, empty};
 ghost use Rattle.entries.specs.declared.entry.Entry.{Entry};
 
 use crate::entry::Entry;
 use crate::list::Entries;
+use lists::list::List;
 
 impl Entries {
     // No entries and no open trial, for grammars with so many nonterminals.
@@ -13,8 +14,7 @@ impl Entries {
         ensures own { result.nonterminals ≡ nonterminals }
     {
         Entries {
-            list: [Entry::first_code(); 64],
-            count: 0,
+            list: List::new(Entry::first_code()),
             trial: false,
             nonterminals,
         }
@@ -30,7 +30,7 @@ impl Entries {
     // How many entries there are.
     pub fn len(&self) -> usize
         ensures is { result ≡ length (state self.now).entries }
-        ensures count { result ≡ self.now.count }
+        ensures count { result ≡ length self.now.list.items }
     {
         self.all().len()
     }
@@ -46,17 +46,10 @@ impl Entries {
     pub fn all(&self) -> &[Entry]
         ensures is { map bits_of result.now ≡ (state self.now).entries }
         ensures long { length result.now ≡ length (state self.now).entries }
-        ensures count { length (state self.now).entries ≡ self.now.count }
+        ensures items { result.now ≡ self.now.list.items }
         ensures each { (k : ℕ) (e : Entry) → k < length result.now → (slice_index_or result.now k e).bits ≡ slice_index (state self.now).entries k }
     {
-        self.in_use()
-    }
-
-    // The part of the list that is in use.
-    fn in_use(&self) -> &[Entry]
-        ensures { result.now ≡ take self.now.count self.now.list }
-    {
-        &self.list[0..self.count]
+        self.list.as_slice()
     }
 
     // Whether a trial is open.

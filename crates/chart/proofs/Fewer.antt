@@ -32,12 +32,12 @@ take_stands s weigh m es k cell stands begin end A some fits name =
     subst (λ l. TotalOf s (DerivesEntries m A l) (weight_of s weigh m) (cell begin end A)) (sym (span_take es k begin end some (omega arith))) (stands begin end A some (omega arith) name)
 
 -- there is room for a front
-front_room : (e f : Entries) (slots : ℕ) → Front e f → e.nonterminals ≤ 4096 → triangle (e.count + 1) * e.nonterminals ≤ slots → triangle (f.count + 1) * f.nonterminals ≤ slots
+front_room : (e f : Entries) (slots : ℕ) → Front e f → e.nonterminals ≤ 4096 → triangle ((length e.list.items) + 1) * e.nonterminals ≤ slots → triangle ((length f.list.items) + 1) * f.nonterminals ≤ slots
 front_room e f slots front narrow fits =
     let es = (state e).entries in
-    let fewer : f.count ≤ e.count = omega (arith, size e, size f, ap length front.are, length-take front.k es) in
-    subst (λ n. triangle (f.count + 1) * n ≤ slots) (sym front.own)
-    (room_before e.nonterminals f.count e.count slots fewer (record { few = e.few; narrow = narrow; fits = fits })).fits
+    let fewer : (length f.list.items) ≤ (length e.list.items) = omega (arith, size e, size f, ap length front.are, length-take front.k es) in
+    subst (λ n. triangle ((length f.list.items) + 1) * n ≤ slots) (sym front.own)
+    (room_before e.nonterminals (length f.list.items) (length e.list.items) slots fewer (record { few = e.few; narrow = narrow; fits = fits })).fits
 
 -- what is still in use stands
 pub front_stands : {S : Type 0} (s : Operations S) (w : ℕ → ℕ → S) (m : Meaning) (e f : Entries) (xs : List S) → Front e f → ChartStands s w m e xs → ChartStands s w m f xs
@@ -47,7 +47,7 @@ front_stands s w m e f xs front stands =
 
 -- what a chart owes of its fields, with a front of its entries
 pub front_ghosts : {S : Type 0} {g : _} (c : Chart S g) (f : Entries) → Front c.entries f
-    → (triangle (f.count + 1) * f.nonterminals ≤ length c.slots.cells.now) × (f.nonterminals ≤ 4096)
+    → (triangle ((length f.list.items) + 1) * f.nonterminals ≤ length c.slots.cells.now) × (f.nonterminals ≤ 4096)
 front_ghosts c f front =
     (front_room c.entries f (length c.slots.cells.now) front c.narrow c.room, subst (λ n. n ≤ 4096) (sym front.own) c.narrow)
 
@@ -56,6 +56,6 @@ pub same_chart : {S : Type 0} {g : _} (c d : Chart S g) → c.slots ≡ d.slots 
 same_chart c d p q = λ i. record {
   slots = p i;
   entries = q i;
-  room = is_prop→PathP (λ j. triangle ((q j).count + 1) * (q j).nonterminals ≤ length (p j).cells.now) (λ j. le_prop) c.room d.room i;
+  room = is_prop→PathP (λ j. triangle (length (q j).list.items + 1) * (q j).nonterminals ≤ length (p j).cells.now) (λ j. le_prop) c.room d.room i;
   narrow = is_prop→PathP (λ j. (q j).nonterminals ≤ 4096) (λ j. le_prop) c.narrow d.narrow i;
 }

@@ -13,11 +13,11 @@ module _ (t : Terms) (e f : Entries) (bits : ℕ) (did : Did t e (Append bits) (
   pub more_entries : (state f).entries ≡ (state e).entries ++ (bits ∷ [])
   more_entries = ap (λ (s : State). s.entries) (did_move did)
 
-  pub one_more : f.count ≡ e.count + 1
+  pub one_more : (length f.list.items) ≡ (length e.list.items) + 1
   one_more = sym (size f) ∙ ap length more_entries ∙ length_push (state e).entries bits ∙ ap (λ k. k + 1) (size e)
 
 -- a replaced entry leaves as many as there were
-pub same_many : (t : Terms) (e f : Entries) (k bits : ℕ) → Did t e (Replace k bits) (Ok tt) f → f.count ≡ e.count
+pub same_many : (t : Terms) (e f : Entries) (k bits : ℕ) → Did t e (Replace k bits) (Ok tt) f → (length f.list.items) ≡ (length e.list.items)
 same_many t e f k bits did =
     sym (size f) ∙ ap (λ (s : State). length s.entries) (did_move did) ∙ length-set (state e).entries k bits ∙ size e
 

@@ -39,10 +39,10 @@ module _ {S : Type 0} {s : Operations S} (laws : Laws s) (weigh : Rule → S) (m
       (sym (ne_eqb (length (e ∷ es)) 0 (omega arith))) (whole_stands (e ∷ es) xs stands (omega arith))
 
   -- so what the call answers is the total
-  pub answer_stands : (e : Entries) (xs : List S) (r : Result S Refusal) → r ≡ total_answer s m e.nonterminals e.count xs → Stands s weigh m (state e).entries (cell_at s m.nonterminals xs)
+  pub answer_stands : (e : Entries) (xs : List S) (r : Result S Refusal) → r ≡ total_answer s m e.nonterminals (length e.list.items) xs → Stands s weigh m (state e).entries (cell_at s m.nonterminals xs)
       → IfOk r (IsTotal (state e).entries)
   answer_stands e xs r is stands = subst (λ x. IfOk x (IsTotal (state e).entries)) (sym is) (go (eqb m.nonterminals e.nonterminals))
     where
-      go : (b : Bool) → MatchResult {E = Refusal} (cond b (Ok (whole_total s m e.count xs)) (Err OtherGrammar)) (IsTotal (state e).entries) (λ _. Unit {0})
+      go : (b : Bool) → MatchResult {E = Refusal} (cond b (Ok (whole_total s m (length e.list.items) xs)) (Err OtherGrammar)) (IsTotal (state e).entries) (λ _. Unit {0})
       go true = subst (λ n. IsTotal (state e).entries (whole_total s m n xs)) (size e) (total_stands (state e).entries xs stands)
       go false = tt

@@ -24,7 +24,7 @@ impl<'a, S: Semiring> Chart<'a, S> {
         bits: u32,
     ) -> Result<(), Refusal>
         ensures did { Did (terms (G.meaning grammar.now) self.old.entries.nonterminals (length self.old.slots.cells.now)) self.old.entries (Call.Append bits) result self.new.entries }
-        ensures writes { MatchResult result (λ _. Column S.ring (by (W.weight weighing.now)) (G.meaning grammar.now) bits 0 (self.old.entries.count + 1) (self.old.entries.count + 1) self.old.slots.cells.now self.new.slots.cells.now) (λ _. self.new ≡ self.old) }
+        ensures writes { MatchResult result (λ _. Column S.ring (by (W.weight weighing.now)) (G.meaning grammar.now) bits 0 ((length self.old.entries.list.items) + 1) ((length self.old.entries.list.items) + 1) self.old.slots.cells.now self.new.slots.cells.now) (λ _. self.new ≡ self.old) }
         ensures stands { ChartStands S.ring (W.weight weighing.now) (G.meaning grammar.now) self.old.entries self.old.slots.cells.now → ChartStands S.ring (W.weight weighing.now) (G.meaning grammar.now) self.new.entries self.new.slots.cells.now }
         ensures long { length self.new.slots.cells.now ≡ length self.old.slots.cells.now }
         ensures named { self.new.slots.cells.ghost_name ≡ self.old.slots.cells.ghost_name }
@@ -45,7 +45,7 @@ impl<'a, S: Semiring> Chart<'a, S> {
     ) -> Result<Trial, Refusal>
         ensures did { Did (terms (G.meaning grammar.now) self.old.entries.nonterminals (length self.old.slots.cells.now)) self.old.entries (Call.Try bits) (plain result) self.new.entries }
         ensures unspent { IfOk result (λ t. t.spent ≡ false) }
-        ensures writes { MatchResult result (λ _. Column S.ring (by (W.weight weighing.now)) (G.meaning grammar.now) bits 0 (self.old.entries.count + 1) (self.old.entries.count + 1) self.old.slots.cells.now self.new.slots.cells.now) (λ _. self.new ≡ self.old) }
+        ensures writes { MatchResult result (λ _. Column S.ring (by (W.weight weighing.now)) (G.meaning grammar.now) bits 0 ((length self.old.entries.list.items) + 1) ((length self.old.entries.list.items) + 1) self.old.slots.cells.now self.new.slots.cells.now) (λ _. self.new ≡ self.old) }
         ensures stands { ChartStands S.ring (W.weight weighing.now) (G.meaning grammar.now) self.old.entries self.old.slots.cells.now → ChartStands S.ring (W.weight weighing.now) (G.meaning grammar.now) self.new.entries self.new.slots.cells.now }
         ensures long { length self.new.slots.cells.now ≡ length self.old.slots.cells.now }
         ensures named { self.new.slots.cells.ghost_name ≡ self.old.slots.cells.ghost_name }

@@ -10,6 +10,6 @@ use semiring::semiring::Semiring;
 pub struct Chart<'a, S: Semiring> {
     pub(crate) slots: Slots<'a, S>,
     pub(crate) entries: Entries,
-    ghost room: { triangle (entries.count + 1) * entries.nonterminals ≤ length slots.cells.now },
+    ghost room: { triangle ((length entries.list.items) + 1) * entries.nonterminals ≤ length slots.cells.now },
     ghost narrow: { entries.nonterminals ≤ 4096 },
 }

@@ -1,5 +1,5 @@
 // Making a chart, and what it answers.
-ghost use Rattle.std.specs.Prelude.{◌≡◌, ℕ, ◌<◌, IfOk, if◌then◌else◌};
+ghost use Rattle.std.specs.Prelude.{length, ◌≡◌, ℕ, ◌<◌, IfOk, if◌then◌else◌};
 ghost use Rattle.semiring.specs.Semirings.{sum_below};
 ghost use Rattle.grammar.specs.Totals.{TotalOf, weight_of, by};
 ghost use Rattle.grammar.specs.Derivations.{EntriesFromStarts};
@@ -39,7 +39,7 @@ impl<'a, S: Semiring> Chart<'a, S> {
 
     // The value of the cell of a nonterminal and the span from `begin` to `end`, if that is in use.
     pub fn cell(&self, begin: usize, end: usize, nonterminal: u32) -> Option<S>
-        ensures { result ≡ cell_answer S.ring self.now.entries.nonterminals self.now.entries.count self.now.slots.cells.now begin end nonterminal }
+        ensures { result ≡ cell_answer S.ring self.now.entries.nonterminals (length self.now.entries.list.items) self.now.slots.cells.now begin end nonterminal }
     {
         let n = self.entries.nonterminals();
         if begin < end && end <= self.entries.len() && nonterminal < n {
@@ -56,7 +56,7 @@ impl<'a, S: Semiring> Chart<'a, S> {
 
     // The sum of the cells of all entries over the starts; without entries it is zero.
     pub fn total<G: Grammar>(&self, grammar: &G) -> Result<S, Refusal>
-        ensures is { result ≡ total_answer S.ring (G.meaning grammar.now) self.now.entries.nonterminals self.now.entries.count self.now.slots.cells.now }
+        ensures is { result ≡ total_answer S.ring (G.meaning grammar.now) self.now.entries.nonterminals (length self.now.entries.list.items) self.now.slots.cells.now }
         ensures total { (w : ℕ → ℕ → S) → ChartStands S.ring w (G.meaning grammar.now) self.now.entries self.now.slots.cells.now → IfOk result (TotalOf S.ring (EntriesFromStarts (G.meaning grammar.now) (state self.now.entries).entries) (weight_of S.ring (by w) (G.meaning grammar.now))) }
     {
         if grammar.nonterminals() != self.entries.nonterminals() {
@@ -71,8 +71,8 @@ impl<'a, S: Semiring> Chart<'a, S> {
     // The sum of the cells of all entries over the starts.
     #[tactic(auto, using(semiring::proofs::Sums::sum_none, semiring::proofs::Sums::sum_more))]
     fn start_sum<G: Grammar>(&self, grammar: &G) -> S
-        requires { 0 < self.now.entries.count }
-        ensures { result ≡ sum_below S.ring self.now.entries.nonterminals (λ A. if (G.meaning grammar.now).start A then cell_at S.ring self.now.entries.nonterminals self.now.slots.cells.now 0 self.now.entries.count A else S.ring.zero) }
+        requires { 0 < (length self.now.entries.list.items) }
+        ensures { result ≡ sum_below S.ring self.now.entries.nonterminals (λ A. if (G.meaning grammar.now).start A then cell_at S.ring self.now.entries.nonterminals self.now.slots.cells.now 0 (length self.now.entries.list.items) A else S.ring.zero) }
     {
         let mut sum = S::zero();
         for a in 0..self.entries.nonterminals() {
@@ -83,9 +83,9 @@ impl<'a, S: Semiring> Chart<'a, S> {
 
     // The cell of all entries and a nonterminal, where that is a start, and else zero.
     fn start_cell<G: Grammar>(&self, grammar: &G, a: u32) -> S
-        requires some { 0 < self.now.entries.count }
+        requires some { 0 < (length self.now.entries.list.items) }
         requires named { a < self.now.entries.nonterminals }
-        ensures { result ≡ (if (G.meaning grammar.now).start a then cell_at S.ring self.now.entries.nonterminals self.now.slots.cells.now 0 self.now.entries.count a else S.ring.zero) }
+        ensures { result ≡ (if (G.meaning grammar.now).start a then cell_at S.ring self.now.entries.nonterminals self.now.slots.cells.now 0 (length self.now.entries.list.items) a else S.ring.zero) }
     {
         if !grammar.is_start(a) {
             return S::zero();

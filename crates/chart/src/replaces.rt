@@ -23,7 +23,7 @@ impl<'a, S: Semiring> Chart<'a, S> {
         bits: u32,
     ) -> Result<(), Refusal>
         ensures did { Did (terms (G.meaning grammar.now) self.old.entries.nonterminals (length self.old.slots.cells.now)) self.old.entries (Call.Replace k bits) result self.new.entries }
-        ensures writes { MatchResult result (λ _. Refilled S.ring (by (W.weight weighing.now)) (G.meaning grammar.now) (state self.new.entries).entries k (self.new.entries.count + 1) self.old.slots.cells.now self.new.slots.cells.now) (λ _. self.new ≡ self.old) }
+        ensures writes { MatchResult result (λ _. Refilled S.ring (by (W.weight weighing.now)) (G.meaning grammar.now) (state self.new.entries).entries k ((length self.new.entries.list.items) + 1) self.old.slots.cells.now self.new.slots.cells.now) (λ _. self.new ≡ self.old) }
         ensures stands { ChartStands S.ring (W.weight weighing.now) (G.meaning grammar.now) self.old.entries self.old.slots.cells.now → ChartStands S.ring (W.weight weighing.now) (G.meaning grammar.now) self.new.entries self.new.slots.cells.now }
         ensures long { length self.new.slots.cells.now ≡ length self.old.slots.cells.now }
         ensures named { self.new.slots.cells.ghost_name ≡ self.old.slots.cells.ghost_name }

@@ -49,9 +49,9 @@ impl<'a, S: Semiring> Slots<'a, S> {
         entries: &Entries,
         k: usize,
     )
-        requires room { cells.Room (G.meaning grammar.now).nonterminals entries.now.count (length self.old.cells.now) }
-        requires entry { k < entries.now.count }
-        ensures filled { columns.Refilled S.ring (by (W.weight weighing.now)) (G.meaning grammar.now) (state entries.now).entries k (entries.now.count + 1) self.old.cells.now self.new.cells.now }
+        requires room { cells.Room (G.meaning grammar.now).nonterminals (length entries.now.list.items) (length self.old.cells.now) }
+        requires entry { k < (length entries.now.list.items) }
+        ensures filled { columns.Refilled S.ring (by (W.weight weighing.now)) (G.meaning grammar.now) (state entries.now).entries k ((length entries.now.list.items) + 1) self.old.cells.now self.new.cells.now }
         ensures long { length self.new.cells.now ≡ length self.old.cells.now }
         ensures named { self.new.cells.ghost_name ≡ self.old.cells.ghost_name }
     {

@@ -29,11 +29,11 @@ nodes_answer_lem total n room = go (eqb total.value none)
 pub chart_answer_lem : (m : Meaning) (e : Entries) (xs : List Cost) (room : ℕ) (r : Result ℕ Refusal) → m.nonterminals ≡ e.nonterminals → r ≡ chart_answer m e xs room
     → MatchResult r (λ k. k ≡ 2 * length (state e).entries - 1) (RefusedFor (length (state e).entries) room)
 chart_answer_lem m e xs room r own is =
-    let whole = whole_total cost m e.count xs in
-    let accepted : chart_answer m e xs room ≡ nodes_answer whole e.count room =
-    ap (λ b. tree_answer (cond b (Ok whole) (Err OtherGrammar)) e.count room) (eq-eqb m.nonterminals e.nonterminals own) in
+    let whole = whole_total cost m (length e.list.items) xs in
+    let accepted : chart_answer m e xs room ≡ nodes_answer whole (length e.list.items) room =
+    ap (λ b. tree_answer (cond b (Ok whole) (Err OtherGrammar)) (length e.list.items) room) (eq-eqb m.nonterminals e.nonterminals own) in
     subst (λ n. MatchResult r (λ k. k ≡ 2 * n - 1) (RefusedFor n room)) (sym (size e))
-    (subst (λ x. MatchResult x (λ k. k ≡ 2 * e.count - 1) (RefusedFor e.count room)) (sym (is ∙ accepted)) (nodes_answer_lem whole e.count room))
+    (subst (λ x. MatchResult x (λ k. k ≡ 2 * (length e.list.items) - 1) (RefusedFor (length e.list.items) room)) (sym (is ∙ accepted)) (nodes_answer_lem whole (length e.list.items) room))
 
 pub cheapest_records : (m : Meaning) (es : List ℕ) (cell : ℕ → ℕ → ℕ → Cost) (total : Cost) (new : List Record) (r : Result ℕ Refusal)
     → IfOk r (λ k. Cheapest by_cost m es cell total (take k new)) → IfOk r (λ k. CheapestRecords m es (take k new))

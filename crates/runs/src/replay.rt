@@ -49,7 +49,7 @@ fn total_by<'a, S: Semiring, G: Grammar, W: Weighing<Value = S>>(
     _weighing: &W,
 ) -> Result<S, Refusal>
     requires { ChartStands S.ring (W.weight _weighing.now) (G.meaning grammar.now) chart.now.entries chart.now.slots.cells.now }
-    ensures answer { result ≡ total_answer S.ring (G.meaning grammar.now) chart.now.entries.nonterminals chart.now.entries.count chart.now.slots.cells.now }
+    ensures answer { result ≡ total_answer S.ring (G.meaning grammar.now) chart.now.entries.nonterminals (length chart.now.entries.list.items) chart.now.slots.cells.now }
     ensures total { IfOk result (TotalOf S.ring (EntriesFromStarts (G.meaning grammar.now) (state chart.now.entries).entries) (weight_of S.ring (by (W.weight _weighing.now)) (G.meaning grammar.now))) }
     ensures matches { OneForOneAll }
     ensures weighs { SameWeightAll S.ring }
@@ -80,7 +80,7 @@ pub fn replay<'a, S: Semiring, G: Grammar, W: Weighing<Value = S>>(
     ensures beyond { (k : ℕ) → length calls.now ≤ k → slice_index_or answers.new k (Ok tt) ≡ slice_index_or answers.old k (Ok tt) }
     ensures held { is_some result.trial ≡ chart.new.entries.trial }
     ensures stands { ChartStands S.ring (W.weight weighing.now) (G.meaning grammar.now) chart.new.entries chart.new.slots.cells.now }
-    ensures answer { result.total ≡ total_answer S.ring (G.meaning grammar.now) chart.new.entries.nonterminals chart.new.entries.count chart.new.slots.cells.now }
+    ensures answer { result.total ≡ total_answer S.ring (G.meaning grammar.now) chart.new.entries.nonterminals (length chart.new.entries.list.items) chart.new.slots.cells.now }
     ensures total { IfOk result.total (TotalOf S.ring (EntriesFromStarts (G.meaning grammar.now) (state chart.new.entries).entries) (weight_of S.ring (by (W.weight weighing.now)) (G.meaning grammar.now))) }
     ensures matches { OneForOneAll }
     ensures weighs { SameWeightAll S.ring }

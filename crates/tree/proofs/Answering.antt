@@ -97,21 +97,21 @@ module _ (total : Cost) (count room : ℕ) where
 -- what is known once the tests are passed
 pub record Passed (m : Meaning) (e : Entries) (xs : List Cost) (v : Cost) (count room nodes : ℕ) : Type 0 where
   pub same : m.nonterminals ≡ e.nonterminals
-  pub is : v ≡ whole_total cost m e.count xs
+  pub is : v ≡ whole_total cost m (length e.list.items) xs
   pub some : v.value < none
-  pub counted : count ≡ e.count
-  pub full : 0 < e.count
-  pub nodes_are : nodes ≡ 2 * e.count - 1
-  pub fits : 2 * e.count - 1 ≤ room
+  pub counted : count ≡ (length e.list.items)
+  pub full : 0 < (length e.list.items)
+  pub nodes_are : nodes ≡ 2 * (length e.list.items) - 1
+  pub fits : 2 * (length e.list.items) - 1 ≤ room
 
-pub passed : (m : Meaning) (e : Entries) (xs : List Cost) (v : Cost) (count room nodes : ℕ) → total_answer cost m e.nonterminals e.count xs ≡ Ok v → count ≡ e.count → nodes_answer v count room ≡ Ok nodes
+pub passed : (m : Meaning) (e : Entries) (xs : List Cost) (v : Cost) (count room nodes : ℕ) → total_answer cost m e.nonterminals (length e.list.items) xs ≡ Ok v → count ≡ (length e.list.items) → nodes_answer v count room ≡ Ok nodes
     → Passed m e xs v count room nodes
 passed m e xs v count room nodes total counted answer =
-    let t = ok_total cost m e.nonterminals e.count xs v total in
+    let t = ok_total cost m e.nonterminals (length e.list.items) xs v total in
     let a = accepted_some v count room nodes answer in
     let nodes_are = a.1 in
     let fits = a.2 in
-    record { same = t.0; is = t.1; some = a.0; counted = counted; full = total_some m e.count xs v t.1 a.0; nodes_are = omega arith; fits = omega arith }
+    record { same = t.0; is = t.1; some = a.0; counted = counted; full = total_some m (length e.list.items) xs v t.1 a.0; nodes_are = omega arith; fits = omega arith }
 
 module _ (weigh : Rule → Cost) (m : Meaning) (es : List ℕ) (total : Cost) (is : TotalOf cost (EntriesFromStarts m es) (weight_of cost weigh m) total) where
   none_without : ((t : Tree) → EntriesFromStarts m es t → ⊥) → total.value ≡ none
@@ -130,18 +130,18 @@ without_none weight m shown es total is byc short free t d =
     omega arith
 
 -- the answer where the numbers of nonterminals agree
-same_answer : (m : Meaning) (e : Entries) (xs : List Cost) (room : ℕ) → m.nonterminals ≡ e.nonterminals → chart_answer m e xs room ≡ nodes_answer (whole_total cost m e.count xs) e.count room
-same_answer m e xs room same = ap (λ r. tree_answer r e.count room) (cond-true (eqb m.nonterminals e.nonterminals) _ _ (eq-eqb _ _ same))
+same_answer : (m : Meaning) (e : Entries) (xs : List Cost) (room : ℕ) → m.nonterminals ≡ e.nonterminals → chart_answer m e xs room ≡ nodes_answer (whole_total cost m (length e.list.items) xs) (length e.list.items) room
+same_answer m e xs room same = ap (λ r. tree_answer r (length e.list.items) room) (cond-true (eqb m.nonterminals e.nonterminals) _ _ (eq-eqb _ _ same))
 
 pub tells_none : (weight : ℕ → ℕ → Cost) (m : Meaning) → Shown m → (e : Entries) (xs : List Cost) (room : ℕ) (r : Result ℕ Refusal) → r ≡ chart_answer m e xs room → TellsNone weight m e xs r
 tells_none weight m shown e xs room r is same byc stands =
     let es = (state e).entries in
-    let total = whole_total cost m e.count xs in
+    let total = whole_total cost m (length e.list.items) xs in
     let whole : TotalOf cost (EntriesFromStarts m es) (weight_of cost (by weight) m) total =
     subst (λ n. TotalOf cost (EntriesFromStarts m es) (weight_of cost (by weight) m) (whole_total cost m n xs)) (size e) (total_stands cost_laws (by weight) m shown es xs stands) in
     let said = is ∙ same_answer m e xs room same in (
-      λ f. without_none weight m shown es total whole byc (omega (arith, size e, e.few)) (answer_none total e.count room (sym said ∙ f)),
-      λ never. said ∙ none_answer total e.count room (none_without (by weight) m es total whole never),
+      λ f. without_none weight m shown es total whole byc (omega (arith, size e, e.few)) (answer_none total (length e.list.items) room (sym said ∙ f)),
+      λ never. said ∙ none_answer total (length e.list.items) room (none_without (by weight) m es total whole never),
     )
 
 -- where there is a number with P, one is found
@@ -161,15 +161,15 @@ module _ (weight : ℕ → ℕ → Cost) (m : Meaning) (shown : Shown m) (e : En
   abbrev cell_of : ℕ → ℕ → ℕ → ℕ → Cost
   cell_of n = cell_at cost n xs
 
-  pub whole_tree : (v : Cost) → v ≡ whole_total cost m e.count xs → v.value < none → (count A : ℕ) → count ≡ e.count
+  pub whole_tree : (v : Cost) → v ≡ whole_total cost m (length e.list.items) xs → v.value < none → (count A : ℕ) → count ≡ (length e.list.items)
       → FirstOf (StartAttains m m.nonterminals (cell_of e.nonterminals 0 count) v.value) (Some A)
       → (part written : List Record) → written ≡ part
       → (Filled cost (by weight) m es (cell_of e.nonterminals) → (cell_of e.nonterminals 0 count A).value < none → Taken (by weight) m es (cell_of e.nonterminals) 0 count A part)
       → ChartCheapest weight m e xs written
   whole_tree v is some count A counted start part written wrote taken =
-      let total = whole_total cost m e.count xs in
+      let total = whole_total cost m (length e.list.items) xs in
       let long : count ≡ length es = counted ∙ sym (size e) in
-      let full : 0 < length es = omega (arith, size e, total_some m e.count xs v is some) in
+      let full : 0 < length es = omega (arith, size e, total_some m (length e.list.items) xs v is some) in
       let whole : TotalOf cost (EntriesFromStarts m es) (weight_of cost (by weight) m) total =
       subst (λ n. TotalOf cost (EntriesFromStarts m es) (weight_of cost (by weight) m) (whole_total cost m n xs)) (size e) (total_stands cost_laws (by weight) m shown es xs stands) in
       let sums : total ≡ start_sum cost m (cell_of m.nonterminals 0 (length es)) = ap (λ n. whole_total cost m n xs) (sym (size e)) ∙ some_whole cost m (length es) xs (omega arith) in

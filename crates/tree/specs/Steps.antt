@@ -47,7 +47,7 @@ cells_of chart = cell_at cost chart.entries.nonterminals chart.slots.cells.now
 
 -- a node is in use in a chart: its span is among the entries, and its nonterminal is one of the chart's
 pub record InUse {g : _} (chart : Chart Cost g) (node : Node) : Type 0 where
-  pub within : node.end ≤ chart.entries.count
+  pub within : node.end ≤ (length chart.entries.list.items)
   pub named : node.nonterminal < chart.entries.nonterminals
 
 -- a test says whether P holds

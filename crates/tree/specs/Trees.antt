@@ -83,11 +83,11 @@ Underivable m es = (t : Tree) → EntriesFromStarts m es t → ⊥
 
 -- the answer to the tree of a chart
 abbrev pub chart_answer : Meaning → Entries → List Cost → ℕ → Result ℕ Refusal
-chart_answer m e xs room = tree_answer (total_answer cost m e.nonterminals e.count xs) e.count room
+chart_answer m e xs room = tree_answer (total_answer cost m e.nonterminals (length e.list.items) xs) (length e.list.items) room
 
 -- the records are those of a cheapest derivation of the chart's entries, which costs the chart's total
 abbrev pub ChartCheapest : (ℕ → ℕ → Cost) → Meaning → Entries → List Cost → List Record → Type 0
-ChartCheapest weight m e xs written = Cheapest (by weight) m (state e).entries (cell_at cost m.nonterminals xs) (whole_total cost m e.count xs) written
+ChartCheapest weight m e xs written = Cheapest (by weight) m (state e).entries (cell_at cost m.nonterminals xs) (whole_total cost m (length e.list.items) xs) written
 
 -- each cheapest derivation of the chart's entries is made of rivals
 abbrev pub ChartEvery : (ℕ → ℕ → Cost) → Meaning → Entries → List Cost → Type 0

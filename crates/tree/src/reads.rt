@@ -1,5 +1,5 @@
 // What the tree reads of its chart: cells and entries in use.
-ghost use Rattle.std.specs.Prelude.{◌≡◌, ◌<◌, slice_index};
+ghost use Rattle.std.specs.Prelude.{length, ◌≡◌, ◌<◌, slice_index};
 ghost use Rattle.tree.specs.Steps.{entries_of, cells_of, InUse};
 
 use super::node::Node;
@@ -21,7 +21,7 @@ impl<G: Grammar, W> Reading<'_, '_, G, W> {
 
     // The entry at a place in use.
     pub(crate) fn entry(&self, place: usize) -> Entry
-        requires { place < self.now.chart.now.entries.count }
+        requires { place < (length self.now.chart.now.entries.list.items) }
         ensures { result.bits ≡ slice_index (entries_of self.now.chart.now) place }
     {
         self.chart.entries().entry(place).unwrap()

@@ -1,5 +1,5 @@
 // The start of a tree, and whether there is one with room for its records.
-ghost use Rattle.std.specs.Prelude.{◌≡◌, ◌<◌, ◌≤◌};
+ghost use Rattle.std.specs.Prelude.{length, ◌≡◌, ◌<◌, ◌≤◌};
 ghost use Rattle.tree.specs.Steps.{Says, FirstOf, ChartStart};
 ghost use Rattle.tree.specs.Trees.{nodes_answer};
 
@@ -28,7 +28,7 @@ impl<G: Grammar, W> Reading<'_, '_, G, W> {
     // Whether a nonterminal is a start whose cell of the first `end` entries has this cost.
     fn start_attains(&self, a: u32, end: usize, value: Cost) -> bool
         requires some { 0 < end }
-        requires within { end ≤ self.now.chart.now.entries.count }
+        requires within { end ≤ (length self.now.chart.now.entries.list.items) }
         ensures { Says result (ChartStart (G.meaning self.now.grammar.now) self.now.chart.now end value a) }
     {
         self.grammar.is_start(a) && self.chart.cell(0, end, a) == Some(value)
@@ -37,7 +37,7 @@ impl<G: Grammar, W> Reading<'_, '_, G, W> {
     // The lowest start whose cell of the first `end` entries has this cost.
     pub(crate) fn first_start(&self, end: usize, value: Cost) -> Option<u32>
         requires some { 0 < end }
-        requires within { end ≤ self.now.chart.now.entries.count }
+        requires within { end ≤ (length self.now.chart.now.entries.list.items) }
         ensures { FirstOf (ChartStart (G.meaning self.now.grammar.now) self.now.chart.now end value) result }
     {
         (0..self.grammar.nonterminals()).find(|&a| self.start_attains(a, end, value))

@@ -22,7 +22,7 @@ unwrap-requires g c =
     let xs = c.args.chart.now.slots.cells.now in
     let v = c.in_ok-total.total in
     let p = passed m e xs v c.len-count.result (length c.args.records.now) c.in_ok-nodes.nodes (sym c.total.ensures.is ∙ c.in_ok-total.was) (cc) (sym c.node_count.ensures ∙ c.in_ok-nodes.was) in
-    let d = start_exists m e.count xs v p.is p.some in
+    let d = start_exists m (length e.list.items) xs v p.is p.some in
     let At : ℕ → ℕ → Type 0 = λ n k. StartAttains m m.nonterminals (cell_at cost n xs 0 k) v.value d.0 in
     some_found _ _ c.first_start.ensures (d.0, subst (λ n. At n c.len-count.result) p.same (subst (At m.nonterminals) (sym p.counted) d.1))
 

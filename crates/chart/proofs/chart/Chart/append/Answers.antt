@@ -29,7 +29,7 @@ returns-clause-writes g c =
     let many = one_more t e f bits did in
     let old = size e in
     let last : c.len-last.result - 1 ≡ length es = omega (arith, c.len-last.ensures.count) in
-    let past : f.count + 1 ≡ length es + 2 = omega arith in
+    let past : (length f.list.items) + 1 ≡ length es + 2 = omega arith in
     subst (λ k. Column g.S.Semiring.ring w m bits 0 (k + 1) (k + 1) xs ys) old
     (refilled_last w m es bits xs ys
     (subst (λ l. refilled l (length es) (length es + 2) xs ys) (more_entries t e f bits did)

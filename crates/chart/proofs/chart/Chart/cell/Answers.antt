@@ -10,6 +10,6 @@ cell-requires g c =
     let slots = length t.slots.cells.now in
     record {
       room = subst (λ n. Room n c.args.end slots) (sym c.nonterminals-n.ensures)
-          (room_before e.nonterminals c.args.end e.count slots (omega arith) (record { few = e.few; narrow = t.narrow; fits = t.room }));
+          (room_before e.nonterminals c.args.end (length e.list.items) slots (omega arith) (record { few = e.few; narrow = t.narrow; fits = t.room }));
       named = omega arith;
     }

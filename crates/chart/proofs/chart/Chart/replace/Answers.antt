@@ -22,7 +22,7 @@ refill-requires g c =
     let many = same_many (terms m e.nonterminals slots) e c.replace.new.self c.args.k c.args.bits (done.did slots) in
     record {
       room = subst (λ k. Room m.nonterminals k slots) (sym many)
-          (subst (λ n. Room n e.count slots) (sym done.inside.0) (record { few = e.few; narrow = t.narrow; fits = t.room }));
+          (subst (λ n. Room n (length e.list.items) slots) (sym done.inside.0) (record { few = e.few; narrow = t.narrow; fits = t.room }));
       entry = subst (λ k. c.args.k < k) (sym many) done.inside.1;
     }
 
@@ -42,8 +42,8 @@ returns-clause-stands g c before =
     let ys = c.refill.new.self.cells.now in
     let did = c.in_ok-replace.ensures.did (length xs) in
     let here : (state f).entries ≡ set (state e).entries k bits = ap (λ (s : State). s.entries) (did_move did) in
-    let long : f.count ≡ length (set (state e).entries k bits) = sym (size f) ∙ ap length here in
-    let refilled = subst (λ n. Refilled ring w m (set (state e).entries k bits) k (n + 1) xs ys) long (subst (λ l. Refilled ring w m l k (f.count + 1) xs ys) here c.refill.ensures.filled) in
+    let long : (length f.list.items) ≡ length (set (state e).entries k bits) = sym (size f) ∙ ap length here in
+    let refilled = subst (λ n. Refilled ring w m (set (state e).entries k bits) k (n + 1) xs ys) long (subst (λ l. Refilled ring w m l k ((length f.list.items) + 1) xs ys) here c.refill.ensures.filled) in
     subst (λ es. Stands ring w m es (cell_at ring m.nonterminals ys)) (sym here)
     (stands_replaced g.met.S.Semiring.laws w m (g.G.Grammar.shown c.args.grammar.now) (state e).entries k bits xs ys refilled before)
 

@@ -14,8 +14,8 @@ fill-requires g c =
     let m = g.G.Grammar.meaning c.args.grammar.now in
     let e = c.args.entries.now in
     let end = c.args.k + c.loop-i.i + 1 in
-    let before : end ≤ e.count = omega (arith, c.all.ensures.long, c.all.ensures.count) in
-    let room = room_before m.nonterminals end e.count (length c.args.self.now.cells.now) before c.requires.room in
+    let before : end ≤ (length e.list.items) = omega (arith, ap length c.all.ensures.items) in
+    let room = room_before m.nonterminals end (length e.list.items) (length c.args.self.now.cells.now) before c.requires.room in
     record { room = subst⁻¹ (λ n. Room n end (length c.loop-i.slots)) c.nonterminals-cells.ensures (subst⁻¹ (Room m.nonterminals end) c.loop-i.auto.slots room) }
 
 pub loop-i-preserved : goal.loop-i-preserved

@@ -1,7 +1,7 @@
 -- One command more is read. Assumes nothing.
-use Rattle.std.proofs.Common.{◌≡◌, ℕ, ◌<◌, ◌≤◌, true, false, ◌⊎◌, List, [], ◌∷◌, ◌++◌, length, drop, Some, None, Ok, Err, Option, Result, sym, ap, ◌∙◌, subst, inl, inr, append_assoc, append-nil, arith, length-append, length-drop, drop_of_length-le}
+use Rattle.std.proofs.Common.{◌≡◌, ℕ, ◌<◌, ◌≤◌, true, false, is_some, ◌⊎◌, List, [], ◌∷◌, ◌++◌, length, drop, Some, None, Ok, Err, Option, Result, sym, ap, ◌∙◌, subst, inl, inr, append_assoc, append-nil, arith, length-append, length-drop, drop_of_length-le}
 use lib.Seq.{drop-append_seam}
-use Rattle.std.proofs.lemmas.Bool.{both_ways}
+use Rattle.std.proofs.lemmas.Bool.{both_ways, true≢false}
 use Rattle.commands.specs.declared.command.Command.{Command}
 use Rattle.commands.specs.declared.fault.Fault.{Fault}
 use Rattle.commands.specs.declared.reader.Reader.{Reader}
@@ -92,3 +92,14 @@ module _ (r : Reader) (before : List Command) (h : HasRead r before) where
   reads s (Ok (Some c)) t = took s c t
   reads s (Ok None) t = finished s t
   reads s (Err f) t = (t.refusal, stopped s f t)
+
+-- what was read where a command was answered
+pub read_one : (r s : Reader) (before : List Command) (o : Option Command) → is_some o ≡ true → Reads r s before (Ok o) → (c : Command) × HasRead s (before ++ (c ∷ []))
+read_one r s before (Some c) e h = (c, h.1)
+read_one r s before None e h = absurd (true≢false (sym e))
+
+-- a reader reads the same input all along
+pub same_input : (r s : Reader) (o : Result (Option Command) Fault) → Steps r s o → s.input ≡ r.input
+same_input r s (Ok (Some c)) t = t.same
+same_input r s (Ok None) t = ap (λ x. x.input) t.same
+same_input r s (Err f) t = ap (λ x. x.input) t.same

@@ -6,7 +6,7 @@ use crate::fault::Fault;
 use crate::reader::Reader;
 
 // How many commands a job has, or its fault.
-#[tactic(auto, using(crate::proofs::Outcomes::one_outcome, crate::proofs::Turns::encodes_long, std::proofs::lemmas::List::length_push))]
+#[tactic(auto, using(crate::proofs::Outcomes::one_outcome, crate::proofs::Turns::encodes_long))]
 pub fn count_commands(input: &[u8]) -> Result<usize, Fault>
     ensures which { Counted input.now result }
     ensures one { OneOutcome input.now }

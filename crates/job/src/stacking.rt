@@ -16,7 +16,7 @@ use layers::intersection::Intersection;
 use layers::readings::Readings;
 use layers::renaming::Renaming;
 
-// What the calls come to by the layers over a grammar.
+// What the calls come to by the layers over a grammar. Its type is a parameter, since layers over the type of the table itself get no generated proof.
 pub(crate) fn stack_report<G: Grammar + Drop>(
     bottom: G,
     bans: Bans,

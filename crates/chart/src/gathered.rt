@@ -3,7 +3,7 @@ ghost use Rattle.std.specs.Prelude.{◌≡◌, ◌+◌, ◌-◌, ◌^◌, ◌<�
 ghost use Rattle.chart.specs.Gathers.{pushed, Gathers};
 
 use grammar::grammar::Grammar;
-use grammar::rule::{Expansion, Rule};
+use grammar::rule::Rule;
 use lists::list::{Full, List};
 
 // The rules of the numbers below `next`, in order.
@@ -30,14 +30,8 @@ impl Gathered {
     pub(crate) fn of<G: Grammar>(grammar: &G) -> Gathered
         ensures { Gathers (G.meaning grammar.now) result }
     {
-        let blank = Rule {
-            lhs: 0,
-            expansion: Expansion::Leaf { code: 0 },
-            cost: 0,
-            bottom: 0,
-        };
         let mut gathered = Gathered {
-            rules: List::new(blank),
+            rules: List::new(Rule::BLANK),
             next: 0,
         };
         for _ in 0..grammar.bound() {

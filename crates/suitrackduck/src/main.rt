@@ -4,10 +4,11 @@
 
 use answer::report::Totals;
 use chart::chart::Chart;
-use grammar::grammar::Grammar;
+use entries::call::Call;
 use grammar::refusal::Refusal;
 use grammar::rule::{Expansion, Rule};
-use grammar::weighing::{CostWeighing, UnitWeighing, Weighing};
+use grammar::weighing::UnitWeighing;
+use runs::replay::{Replayed, replay};
 use semiring::cost::Cost;
 use semiring::count::Count;
 use semiring::semiring::Semiring;
@@ -16,8 +17,8 @@ use std::io;
 use table::draft::Draft;
 use table::table::Table;
 
-// The entries, each as a set of codes.
-const ENTRIES: [u32; 2] = [0b11, 0b11];
+// The entries, each added at the end.
+const CALLS: [Call; 2] = [Call::Append(0b11), Call::Append(0b11)];
 
 // The grammar of the three rules, over rows that are lent.
 fn rules(rows: &mut [Rule]) -> Result<Table<'_>, Refusal> {
@@ -28,27 +29,35 @@ fn rules(rows: &mut [Rule]) -> Result<Table<'_>, Refusal> {
     Ok(draft.seal())
 }
 
-// The total of the entries by a weighing.
-fn total<S: Semiring, G: Grammar, W: Weighing<Value = S>>(
-    slots: &mut [S],
-    grammar: &G,
-    weighing: &W,
-) -> Result<S, Refusal> {
-    let mut chart = Chart::new(slots, grammar);
-    for codes in ENTRIES {
-        chart.append(grammar, weighing, codes)?;
-    }
-    chart.total(grammar)
-}
-
-// Whether the entries can be read, in how many ways, and at what least cost: the totals of three charts.
+// Whether the entries can be read, in how many ways, and at what least cost.
 fn read_entries() -> Result<Totals, Refusal> {
     let mut rows = [Rule::BLANK; 3];
     let grammar = rules(&mut rows)?;
+    let mut slots = [Count::zero(); 3];
+    let mut chart = Chart::new(&mut slots, &grammar);
+    let Replayed {
+        total,
+        cost,
+        tree: _,
+        trial,
+    } = replay(
+        &mut chart,
+        &mut [Cost::zero(); 3],
+        &grammar,
+        &UnitWeighing::new(),
+        &CALLS,
+        &mut [],
+        &mut [],
+    );
+    if let Some(trial) = trial {
+        chart.keep(trial)?;
+    }
     Ok(Totals {
-        read: total(&mut [YesNo::zero(); 3], &grammar, &UnitWeighing::new())?,
-        count: total(&mut [Count::zero(); 3], &grammar, &UnitWeighing::new())?,
-        cost: total(&mut [Cost::zero(); 3], &grammar, &CostWeighing {})?,
+        read: YesNo {
+            value: !cost.is_none(),
+        },
+        count: total?,
+        cost,
     })
 }
 

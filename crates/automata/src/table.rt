@@ -116,7 +116,7 @@ impl Automaton for TableAutomaton {
     }
 }
 
-// Whether the bit of a state is set.
+// Whether the bit of a state is set. An entry asks the same of its own 32 bits: one line over each width is no longer than a function below both.
 fn is_in(set: u8, state: u32) -> bool
     requires { state < 8 }
     ensures { result ≡ has set state }

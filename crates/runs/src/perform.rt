@@ -65,7 +65,7 @@ impl<'a, S: Semiring, G: Grammar, W: Weighing<Value = S>> Run<'_, '_, '_, 'a, S,
         self.chart.keep(trial)
     }
 
-    // Withdraws the entry on trial, by the token in hand; without one, no trial is open.
+    // Withdraws the entry on trial, by the token in hand; without one, no trial is open. A method beside `keep`: one over a closure for the call would be no plainer.
     #[tactic(auto, using(crate::proofs::Marks::withdrawn_mark))]
     fn withdraw(&mut self) -> Result<(), Refusal>
         ensures moved { Moved S.ring Call.Withdraw result self.old.chart.now self.new.chart.now }
@@ -87,7 +87,7 @@ impl<'a, S: Semiring, G: Grammar, W: Weighing<Value = S>> Run<'_, '_, '_, 'a, S,
         Ok(())
     }
 
-    // One call. A token in hand is spent by keep, withdraw and clear; keep and withdraw without one are answered that no trial is open.
+    // One call. A token in hand is spent by keep, withdraw and clear; keep and withdraw without one are answered that no trial is open. A match, since calls are values, which the model of a run works out in the same way.
     pub(crate) fn perform(&mut self, call: Call) -> Result<(), Refusal>
         ensures performed { Performed S.ring (W.weight self.old.weighing.now) (G.meaning self.old.grammar.now) call result self.old.chart.now self.new.chart.now }
         ensures lent { self.new.chart.ghost_name ≡ self.old.chart.ghost_name }

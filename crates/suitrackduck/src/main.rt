@@ -20,7 +20,7 @@ use table::table::Table;
 // The entries, each added at the end.
 const CALLS: [Call; 2] = [Call::Append(0b11), Call::Append(0b11)];
 
-// The grammar of the three rules, over rows that are lent.
+// The grammar of the three rules, over rows that are lent. The tests of whole sheets have the same rules: a program takes nothing from a crate of tests.
 fn rules(rows: &mut [Rule]) -> Result<Table<'_>, Refusal> {
     let mut draft = Draft::new(rows, 1, 2, 0);
     draft.add(0, Expansion::Pair { left: 0, right: 0 }, 1)?;

@@ -1,4 +1,4 @@
-// The three semirings: yes/no, count and cost.
+// The three semirings: yes/no, count and cost. Counts and costs are two types and not one of two widths: the cap of a count is its largest value, that of a cost is its zero.
 ghost use Rattle.std.specs.Prelude.{◌≡◌, ◌+◌, ◌-◌, ◌*◌, ◌^◌, min, ◌==◌};
 ghost use Rattle.semiring.specs.YesNos.{yes_no};
 ghost use Rattle.semiring.specs.Counts.{count};
@@ -69,7 +69,7 @@ impl Semiring for YesNo {
     }
 }
 
-// A wide number, or 2^64 - 1 where that is smaller.
+// A wide number, or 2^64 - 1 where that is smaller. One wide product is faster than `saturating_mul`; it is widened by `as`, since of a product of `u128::from` the check finds no proof.
 fn capped(wide: u128) -> u64
     ensures { result ≡ min wide (2 ^ 64 - 1) }
 {

@@ -3,7 +3,7 @@ ghost use Rattle.std.specs.Prelude.{◌≡◌, ◌≢◌, ℕ, ◌<◌, length, 
 ghost use Rattle.entries.specs.Model.{terms, state, empty};
 ghost use Rattle.chart.specs.Stands.{ChartStands};
 ghost use Rattle.runs.specs.Runs.{RanAll};
-ghost use Rattle.runs.specs.Calls.{SameSlots, SameShown, RanAnew};
+ghost use Rattle.runs.specs.Calls.{SameSlots, SameShown, Performed, RanAnew};
 
 use crate::perform::begin;
 use crate::run::Run;
@@ -26,6 +26,24 @@ fn write_answer(answer: Result<(), Refusal>, answers: &mut [Result<(), Refusal>]
 }
 
 impl<'a, S: Semiring, G: Grammar, W: Weighing<Value = S>> Run<'_, '_, '_, 'a, S, G, W> {
+    // One call, with its answer written at a place, where there is room for it.
+    fn perform_at(
+        &mut self,
+        call: Call,
+        answers: &mut [Result<(), Refusal>],
+        i: usize,
+    ) -> Result<(), Refusal>
+        ensures performed { Performed S.ring (W.weight self.old.weighing.now) (G.meaning self.old.grammar.now) call result self.old.chart.now self.new.chart.now }
+        ensures there { i < length answers.old → slice_index_or answers.new i (Ok tt) ≡ result }
+        ensures rest { (k : ℕ) → k ≢ i → slice_index_or answers.new k (Ok tt) ≡ slice_index_or answers.old k (Ok tt) }
+        ensures lent { self.new.chart.ghost_name ≡ self.old.chart.ghost_name }
+        ensures shown { SameShown self.old self.new }
+    {
+        let answer = self.perform(call);
+        write_answer(answer, answers, i);
+        answer
+    }
+
     // All calls of a list, with the answer to each, as far as there is room for the answers.
     fn perform_all(&mut self, calls: &[Call], answers: &mut [Result<(), Refusal>])
         ensures ran { RanAll (terms (G.meaning self.old.grammar.now) self.old.chart.now.entries.nonterminals (length self.old.chart.now.slots.cells.now)) (state self.old.chart.now.entries) calls.now (state self.new.chart.now.entries) answers.old answers.new }
@@ -35,7 +53,7 @@ impl<'a, S: Semiring, G: Grammar, W: Weighing<Value = S>> Run<'_, '_, '_, 'a, S,
         ensures shown { SameShown self.old self.new }
     {
         for (i, call) in calls.iter().enumerate() {
-            write_answer(self.perform(*call), answers, i);
+            let _ = self.perform_at(*call, answers, i);
         }
     }
 }

@@ -62,6 +62,7 @@ impl TableAutomaton {
         }
     }
 
+    // The automaton with these numbers, in which each state stays.
     fn made(states: u32, codes: u32, start: u32, accepting: u8) -> TableAutomaton
         requires { (1 ≤ states) × ((states ≤ 8) × ((1 ≤ codes) × ((codes ≤ 32) × (start < states)))) }
         ensures { table_machine result ≡ staying states codes start accepting }
@@ -75,6 +76,7 @@ impl TableAutomaton {
         }
     }
 
+    // Writes one step.
     fn put(&mut self, from: u32, code: u8, to: u32)
         requires { (from < self.old.states) × ((code < self.old.codes) × (to < self.old.states)) }
         ensures { table_machine self.new ≡ written from code to (table_machine self.old) }

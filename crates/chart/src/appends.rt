@@ -1,5 +1,5 @@
 // Adding an entry at the end, for good or on trial.
-// `long` and `named` stand at each call: two short equations, and one definition of both would be no plainer.
+// `long` and `named` stand at each call: two short equations, and one definition of both would be no plainer. `stands` is the promise of each call and no invariant of the chart, since grammar and weighing are shown at each call.
 ghost use Rattle.std.specs.Prelude.{◌≡◌, ◌+◌, false, length, IfOk, MatchResult};
 ghost use Rattle.grammar.specs.Totals.{by};
 ghost use Rattle.entries.specs.Model.{terms, plain, Did};

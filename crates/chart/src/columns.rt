@@ -68,6 +68,7 @@ impl<'a, G: Grammar, W: Weighing> Column<'a, G, W> {
         requires many { 64 < length slots.old }
         ensures { columns.Column W.Value.Semiring.ring (by (W.weight self.now.widest.weighing.now)) (G.meaning self.now.widest.grammar.now) self.now.widest.last.bits 0 self.now.upto self.now.widest.span.end slots.old slots.new }
     {
+        // A key of no rule, and no Option, which each look at a sum would test.
         let blank = Sum {
             key: Key {
                 left: u32::MAX,

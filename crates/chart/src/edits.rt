@@ -1,5 +1,5 @@
 // The calls that write no slot: clear, take back, keep and withdraw. What they do is what they do to the entries.
-// `same` and `named` stand at each call: two short equations, and one definition of both would be no plainer.
+// `same` and `named` stand at each call: two short equations, and one definition of both would be no plainer. `stands` is the promise of each call and no invariant of the chart, since grammar and weighing are shown at each call.
 ghost use Rattle.std.specs.Prelude.{◌≡◌, ℕ, Ok};
 ghost use Rattle.grammar.specs.Grammars.{Meaning};
 ghost use Rattle.entries.specs.Model.{Terms, Did};

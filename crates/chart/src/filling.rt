@@ -8,6 +8,7 @@ use entries::entry::Entry;
 use grammar::grammar::Grammar;
 use grammar::weighing::Weighing;
 
+// The slots and the sums are lent to each method and are no fields, since parts of them are lent on.
 #[derive(Drop)]
 pub(crate) struct Filling<'a, G: Grammar, W: Weighing> {
     pub(crate) grammar: &'a G,

@@ -6,7 +6,7 @@ use grammar::grammar::Grammar;
 use grammar::rule::Rule;
 use lists::list::{Full, List};
 
-// The rules of the numbers below `next`, in order.
+// The rules of the numbers below `next`, in order. `next` is kept and moved on, since a rule for which there is no room ends the gathering before it.
 #[derive(Drop)]
 pub(crate) struct Gathered {
     pub(crate) rules: List<Rule, 256>,

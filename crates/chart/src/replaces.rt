@@ -1,4 +1,4 @@
-// Changing the entry at a place.
+// Changing the entry at a place. Why `stands`, `long` and `named` stand at each call is said of the calls that add an entry.
 ghost use Rattle.std.specs.Prelude.{◌≡◌, ◌+◌, length, MatchResult};
 ghost use Rattle.grammar.specs.Totals.{by};
 ghost use Rattle.entries.specs.Model.{state, terms, Did};

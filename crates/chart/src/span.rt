@@ -14,7 +14,7 @@ pub(crate) struct Span {
 }
 
 impl Span {
-    // The slot of the cell of `a`.
+    // The slot of the cell of `a`. As many spans end before `end` as the first half line says, which the entries work out too.
     pub(crate) fn slot(self, a: usize) -> usize
         requires { a < self.cells }
         ensures { result ≡ place self.cells self.begin self.end a }

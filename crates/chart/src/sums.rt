@@ -24,7 +24,7 @@ impl Key {
     }
 }
 
-// The sum of a key.
+// The sum of a key. The places are looked up by what `Key::place` says and not by a map, since nothing is allocated.
 #[derive(Clone, Copy)]
 pub(crate) struct Sum<S> {
     pub(crate) key: Key,

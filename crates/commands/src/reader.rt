@@ -1,4 +1,4 @@
-// The reader of a job: the input, the place of the next command in it, and the stage that the job has come to.
+// The reader of a job: the input, the place of the next command in it, and the stage that the job has come to. Both input and place are kept, since a fault names a place of the whole input.
 ghost use Rattle.std.specs.Prelude.{◌≡◌, ◌≤◌, length};
 
 use crate::stage::Stage;

@@ -17,7 +17,7 @@ pub enum Stage {
 }
 
 impl Stage {
-    // The stage after one command more, or none where the command may not come.
+    // The stage after one command more, or none where the command may not come. A match on both: commands are values of the format, and no steps to run.
     pub(crate) fn after(self, command: Command) -> Option<Stage>
         ensures { result ≡ next_stage self command }
     {

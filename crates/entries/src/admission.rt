@@ -23,7 +23,7 @@ pub(crate) fn proper_entry(bits: u32, codes: u32) -> Result<Entry, Refusal>
     Entry::new(bits).ok_or(Refusal::BadEntry)
 }
 
-// How many spans end before `end`.
+// How many spans end before `end`. The place of a cell has the same half line: a function of both crates for it would be no plainer.
 #[tactic(auto, unfolding(crate::specs::Spans::triangle))]
 fn spans_before(end: usize) -> usize
     requires { (0 < end) × (end ≤ 66) }

@@ -43,7 +43,7 @@ impl Entry {
         code < 32 && self.bit(code) == 1
     }
 
-    // The bit of a code.
+    // The bit of a code. An automaton asks the same of its own 8 bits: one line over each width is no longer than a function below both.
     fn bit(self, code: u8) -> u32
         requires { code < 32 }
         ensures { result ≡ self.bits / 2 ^ code % 2 }

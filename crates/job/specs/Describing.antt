@@ -1,5 +1,5 @@
 -- What the commands of a job describe: why each is refused, and what one that is accepted adds. Assumes nothing.
-use Rattle.std.specs.Prelude.{◌≡◌, ℕ, ◌*◌, cond, List, [], ◌∷◌, ◌++◌, length, Some, None, Ok, Option, Result, nat_lt}
+use Rattle.std.specs.Prelude.{◌≡◌, ℕ, ◌*◌, cond, List, [], ◌∷◌, ◌++◌, length, Some, None, Ok, Option, Result, nat_lt, OnErr}
 use Rattle.grammar.specs.declared.refusal.Refusal.{Refusal}
 use Rattle.grammar.specs.declared.refusal.Refusal.TheVariants.{FewerCodes, BadEntry, NoRoom}
 use Rattle.grammar.specs.Refusals.{accepted_unless}
@@ -116,10 +116,11 @@ taken d (Reading b a) = record d { recorder = with_reading b a d.recorder }
 taken d (Entry bits) = record d { entries = d.entries ++ (bits ∷ []) }
 taken d End = d
 
--- taking a command answers that it is accepted, or why it is refused; where it is accepted, d becomes what it makes of d
+-- taking a command answers that it is accepted, or why it is refused; where it is accepted, d becomes what it makes of d, and where not, d stays
 pub record Taking (d : Described) (c : Command) (answer : Result (Unit {0}) Refusal) (e : Described) : Type 0 where
   pub refusal : answer ≡ accepted_unless (refusal d c)
   pub after : answer ≡ Ok tt → e ≡ taken d c
+  pub same : OnErr answer (e ≡ d)
 
 -- what commands make of the description, one after another
 abbrev pub describe : Described → List Command → Described

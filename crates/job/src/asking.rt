@@ -24,7 +24,7 @@ use semiring::semiring::Semiring;
 use semiring::yes_no::YesNo;
 use tree::record::Record;
 
-// What the calls come to by the grammar: counts and costs are the slots of two charts.
+// What the calls come to by the grammar: counts and costs are the slots of two charts. The sample program asks in the same way, of slots and rules of its own.
 fn ask<G: Grammar>(
     counts: &mut [Count],
     costs: &mut [Cost],

@@ -1,10 +1,10 @@
 // What each command adds to a description.
-ghost use Rattle.std.specs.Prelude.{◌≡◌, ◌≤◌, [], None};
+ghost use Rattle.std.specs.Prelude.{◌≡◌, ◌≤◌, [], Ok, None, OnErr};
 ghost use Rattle.grammar.specs.Refusals.{accepted_unless};
 ghost use Rattle.automata.specs.Making.{table_made};
 ghost use Rattle.table.specs.Drafts.{contents};
 ghost use Rattle.commands.specs.declared.command.Command.{Command};
-ghost use Rattle.job.specs.Describing.{Later, Taking, nonterminals_of, codes_of};
+ghost use Rattle.job.specs.Describing.{Later, Taking, rule_refusal, with_rule, nonterminals_of, codes_of};
 ghost use Rattle.job.specs.Held.{held};
 
 use crate::description::Description;
@@ -46,17 +46,11 @@ impl<'a> Description<'a> {
                 right,
                 cost,
             } => {
-                let expansion = Expansion::Pair {
-                    left: u32::from(left),
-                    right: u32::from(right),
-                };
-                self.draft.add(u32::from(lhs), expansion, cost)?;
-                Ok(())
+                let (left, right) = (u32::from(left), u32::from(right));
+                self.take_rule(lhs, Expansion::Pair { left, right }, cost)
             }
             Command::Leaf { lhs, code, cost } => {
-                self.draft
-                    .add(u32::from(lhs), Expansion::Leaf { code }, cost)?;
-                Ok(())
+                self.take_rule(lhs, Expansion::Leaf { code }, cost)
             }
             Command::Ban { number } => self.bans.add(u32::from(number)),
             Command::Automaton {
@@ -74,6 +68,16 @@ impl<'a> Description<'a> {
             Command::End => Ok(()),
             Command::Grammar { .. } => unreachable!(),
         }
+    }
+
+    // Takes a rule into the draft.
+    fn take_rule(&mut self, lhs: u8, expansion: Expansion, cost: u16) -> Result<(), Refusal>
+        ensures refusal { result ≡ accepted_unless (rule_refusal (held self.old).table lhs expansion) }
+        ensures after { result ≡ Ok tt → held self.new ≡ record (held self.old) { table = with_rule (held self.old).table lhs expansion cost } }
+        ensures same { OnErr result (held self.new ≡ held self.old) }
+    {
+        self.draft.add(u32::from(lhs), expansion, cost)?;
+        Ok(())
     }
 
     // Takes an automaton, which has at least as many codes as the grammar.

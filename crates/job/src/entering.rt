@@ -9,7 +9,7 @@ use grammar::refusal::Refusal;
 // The slots of each chart.
 pub(crate) const SLOTS: usize = 4096;
 
-// Whether an entry may come after `count` others, by a grammar of `nonterminals` and `codes`, or why it is refused.
+// The chart tests the same when the entry comes to it; here it is tested before there is a grammar. Whether an entry may come after `count` others, by a grammar of `nonterminals` and `codes`, or why it is refused.
 pub(crate) fn check_entry(
     nonterminals: u32,
     codes: u32,

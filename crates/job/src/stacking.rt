@@ -16,7 +16,7 @@ use layers::intersection::Intersection;
 use layers::readings::Readings;
 use layers::renaming::Renaming;
 
-// What the calls come to by the layers over a grammar. Its type is a parameter, since layers over the type of the table itself get no generated proof.
+// What the calls come to by the layers over a grammar. Its type is a parameter, since layers over the type of the table itself get no generated proof; neither does a function that takes the description by value, so its parts are parameters.
 pub(crate) fn stack_report<G: Grammar + Drop>(
     bottom: G,
     bans: Bans,

@@ -30,10 +30,7 @@ impl Bans {
         ensures means { banned self.new ≡ added number (banned self.old) }
         ensures same { OnErr result (self.new ≡ self.old) }
     {
-        match self.numbers.push(number) {
-            Ok(()) => Ok(()),
-            Err(_) => Err(Refusal::TooManyBans),
-        }
+        self.numbers.push(number).map_err(|_| Refusal::TooManyBans)
     }
 
     // Whether a number is banned.

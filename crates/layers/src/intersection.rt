@@ -18,7 +18,7 @@ pub struct Intersection<G, M> {
 }
 
 impl<G: Grammar, M: Automaton> Intersection<G, M> {
-    // Lays an intersection; one that would be too large, or whose automaton has too few codes, is blank.
+    // Lays an intersection; one that would be too large, or whose automaton has too few codes, is blank: a refused layer is a grammar too, so this answers a layer beside a refusal.
     pub fn lay(below: G, automaton: M) -> (Intersection<G, M>, Option<Refusal>)
         ensures refusal { result.1 ≡ intersection_refused (M.machine automaton) (G.meaning below) }
         ensures means { intersection_meaning G.meaning M.machine result.0 ≡ intersection (M.machine automaton) (G.meaning below) }

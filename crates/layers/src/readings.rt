@@ -63,6 +63,7 @@ impl Readings {
         }
     }
 
+    // So many recorder codes, each read as nothing.
     fn unread(count: u32) -> Readings
         requires { (1 ≤ count) × (count ≤ 32) }
         ensures { recorder_of result ≡ unread_all count }
@@ -73,6 +74,7 @@ impl Readings {
         }
     }
 
+    // Writes one reading.
     fn put(&mut self, recorder: u8, code: u8)
         requires { (recorder < self.old.count) × (code < 32) }
         ensures { recorder_of self.new ≡ reading_of recorder code (recorder_of self.old) }

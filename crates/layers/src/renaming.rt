@@ -18,7 +18,7 @@ pub struct Renaming<G> {
 }
 
 impl<G: Grammar> Renaming<G> {
-    // Lays a renaming; one that would be too large is blank.
+    // Lays a renaming; one that would be too large is blank: a refused layer is a grammar too, so this answers a layer beside a refusal.
     pub fn lay(below: G, readings: Readings) -> (Renaming<G>, Option<Refusal>)
         ensures refusal { result.1 ≡ renaming_refused (recorder readings) (G.meaning below) }
         ensures means { renaming_meaning G.meaning result.0 ≡ renaming (recorder readings) (G.meaning below) }

@@ -66,6 +66,7 @@ pub struct Replayed<S> {
 }
 
 // Clears the chart, makes all calls of a list on it, and asks for the total; makes the same calls on a cost chart over `costs`, and asks that for its total and its tree.
+// Seven parameters: what it is lent and shown are apart for its callers, who keep the chart, the answers and the records.
 pub fn replay<'a, S: Semiring, G: Grammar, W: Weighing<Value = S>>(
     chart: &mut Chart<'a, S>,
     costs: &mut [Cost],

@@ -1,5 +1,5 @@
 // A list of calls with refusals in between: the answers, and each cell beside that of a chart filled anew.
-use crate::rules::known_rules;
+use crate::rules::{UNTOUCHED, known_rules};
 use chart::chart::Chart;
 use entries::call::Call;
 use grammar::grammar::Grammar;
@@ -12,7 +12,6 @@ use semiring::count::Count;
 use semiring::semiring::Semiring;
 use std::process::Abort;
 use std::test::Fail;
-use tree::record::Record;
 
 // The calls.
 const CALLS: [Call; 16] = [
@@ -57,12 +56,6 @@ const ANSWERS: [Result<(), Refusal>; 16] = [
 // The entries that the calls leave.
 const LEFT: [u32; 3] = [0b11, 0b11, 0b10];
 
-const UNTOUCHED: Record = Record {
-    begin: 9,
-    end: 9,
-    bottom: 9,
-};
-
 // Spans in use, and some that are not.
 const SPANS: [(usize, usize); 8] = [
     (0, 1),
@@ -75,6 +68,7 @@ const SPANS: [(usize, usize); 8] = [
     (0, 4),
 ];
 
+// The answers are those expected.
 fn check_answers(rt: &impl Abort, answers: &[Result<(), Refusal>]) {
     for (answer, expected) in answers.iter().zip(ANSWERS.iter()) {
         assert_eq!(rt; *answer, *expected);

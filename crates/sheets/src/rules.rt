@@ -1,8 +1,16 @@
-// The grammar of the known sheets, and the readings of recorder codes that go with it.
+// The grammar of the known sheets, the readings of recorder codes that go with it, and a record that nothing was written to.
 use grammar::rule::{Expansion, Rule};
 use layers::readings::Readings;
 use table::draft::Draft;
 use table::table::Table;
+use tree::record::Record;
+
+// What records hold before a tree is written to them.
+pub(crate) const UNTOUCHED: Record = Record {
+    begin: 9,
+    end: 9,
+    bottom: 9,
+};
 
 // S to S S (cost 1), S to 0 (cost 2), S to 1 (cost 3).
 pub(crate) fn known_rules(rows: &mut [Rule]) -> Table<'_> {

@@ -139,6 +139,7 @@ fn renaming_sizes(rt: HostRuntime) {
     }
 }
 
+// Whether a layer is blank.
 fn is_blank<G: Grammar>(grammar: &G) -> bool {
     let empty = grammar.nonterminals() == 1 && grammar.codes() == 1 && grammar.bound() == 0;
     empty && !grammar.is_start(0) && grammar.rule(0).is_none()

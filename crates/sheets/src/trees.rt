@@ -1,5 +1,5 @@
 // A tree with ties in its start, its rules and its cuts, and trees that are refused.
-use crate::rules::known_rules;
+use crate::rules::{UNTOUCHED, known_rules};
 use crate::starts::EveryStart;
 use chart::chart::Chart;
 use grammar::grammar::Grammar;
@@ -14,12 +14,6 @@ use table::draft::Draft;
 use table::table::Table;
 use tree::record::Record;
 use tree::tree;
-
-const UNTOUCHED: Record = Record {
-    begin: 9,
-    end: 9,
-    bottom: 9,
-};
 
 // The tree of three entries {0}: start 0 before 1, rules 1 and 4 before 2 and 5, the cut at 1 before that at 2. The last record stays.
 const TREE: [Record; 6] = [
@@ -51,7 +45,7 @@ const TREE: [Record; 6] = [
     UNTOUCHED,
 ];
 
-// So many entries with these bits, and the number of the refusal of their tree, with four records.
+// So many entries with these bits, and the refusal of their tree, with four records, by the number by which users know it.
 #[derive(Clone, Copy)]
 struct Refused {
     bits: u32,

@@ -29,7 +29,7 @@ fn rules(rows: &mut [Rule]) -> Result<Table<'_>, Refusal> {
     Ok(draft.seal())
 }
 
-// Whether the entries can be read, in how many ways, and at what least cost.
+// Whether the entries can be read, in how many ways, and at what least cost. A job asks in the same way, of slots and rules of its own.
 fn read_entries() -> Result<Totals, Refusal> {
     let mut rows = [Rule::BLANK; 3];
     let grammar = rules(&mut rows)?;
@@ -61,6 +61,7 @@ fn read_entries() -> Result<Totals, Refusal> {
     })
 }
 
+// Prints the totals.
 fn main(rt: HostRuntime) -> io::Result<()> {
     match read_entries() {
         Ok(totals) => print!(rt; "{totals}"),

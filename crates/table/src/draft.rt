@@ -10,7 +10,7 @@ use grammar::rule::{Expansion, Rule};
 // The rows and their count stand beside one another: the caller lends the memory.
 #[derive(Drop)]
 pub struct Draft<'a> {
-    // why the making was refused, if it was
+    // why the making was refused, if it was: kept here, since a refused draft is the smallest draft, and a `Result` that holds a draft gets no generated proof
     pub(crate) refusal: Option<Refusal>,
     pub(crate) shape: Shape,
     pub(crate) count: usize,

@@ -16,6 +16,7 @@ pub struct Wide {
 }
 
 impl Wide {
+    // So many nonterminals and this bound, or the nearest that a grammar may have.
     pub(crate) fn new(nonterminals: u32, bound: u32) -> Wide {
         Wide {
             nonterminals: nonterminals.clamp(1, 4096),

@@ -1,4 +1,4 @@
-// One call of a run.
+// One call of a run. `lent` and `shown` stand at each method: that a run keeps the borrow of its chart has to be a clause of its own.
 ghost use Rattle.std.specs.Prelude.{◌≡◌, Ok};
 ghost use Rattle.entries.specs.Model.{state};
 ghost use Rattle.entries.specs.declared.call.Call.{Call};

@@ -8,7 +8,7 @@ use Rattle.semiring.specs.Costs.{cost, none}
 use Rattle.grammar.specs.declared.rule.Expansion.{Expansion}
 use Rattle.grammar.specs.declared.rule.Expansion.TheVariants.{Pair, Leaf}
 use Rattle.grammar.specs.declared.rule.Rule.{Rule}
-use Rattle.grammar.specs.Grammars.{Meaning, Shown, Declared}
+use Rattle.grammar.specs.Grammars.{Meaning}
 use Rattle.grammar.specs.Derivations.{has}
 use Rattle.grammar.specs.Spans.{cut_term, share, rule_share, shares}
 use Rattle.grammar.proofs.Truths.{true_of}
@@ -108,7 +108,3 @@ module _ (weigh : Rule → Cost) (m : Meaning) (es : List ℕ) (cell : ℕ → �
 
   pub pair_attained : (c : Choice) (left right : ℕ) → Picked (Rival weigh m es cell begin end A) m c → c.rule.expansion ≡ Pair left right → PairAttains cell (weigh c.rule) (cell begin end A).value begin end left right c.cut
   pair_attained c left right p is = subst (λ x. Attains es cell (weigh c.rule) (cell begin end A).value begin end x c.cut) is (attained c p)
-
--- the parts of a pair rule are nonterminals of the grammar
-pub pair_declared : (m : Meaning) → Shown m → (i : ℕ) (r : Rule) (left right : ℕ) → m.rule i ≡ Some r → r.expansion ≡ Pair left right → (left < m.nonterminals) × (right < m.nonterminals)
-pair_declared m shown i r left right there is = subst (Declared m) is (shown.rules i r there).into

@@ -1,7 +1,6 @@
 -- Parts written one after another. Assumes nothing.
-use Rattle.std.proofs.Common.{◌≡◌, ℕ, zero, suc, ◌+◌, ◌<◌, ◌≤◌, List, [], ◌∷◌, ◌++◌, length, take, drop, set, sym, refl, ap, ◌∙◌, append_assoc, le_of_suc-le-suc, not-suc-le-zero, add_assoc, add-one, arith, length-append, length-take-le, length-drop, drop-drop, take_at}
+use Rattle.std.proofs.Common.{◌≡◌, ℕ, zero, suc, ◌+◌, ◌<◌, ◌≤◌, List, [], ◌∷◌, ◌++◌, length, take, drop, set, sym, refl, ap, ◌∙◌, append_assoc, le_of_suc-le-suc, not-suc-le-zero, add_assoc, add-one, arith, length-append, length-take-le, drop-drop, take_at}
 use lib.Seq.{drop-append-add}
-use Rattle.std.proofs.lemmas.List.{take-append-drop}
 use Rattle.tree.specs.declared.record.Record.{Record}
 use Rattle.tree.specs.Steps.{put}
 
@@ -28,14 +27,6 @@ put_put old at p q next h e =
     ∙ drop-drop (length q) (at + length p) old
     ∙ ap (λ n. drop n old) (add_assoc at (length p) (length q) ∙ ap (λ n. at + n) (sym (length-append p q))) in
     (λ i. a i ++ (q ++ b i)) ∙ append_assoc (take at old) p _ ∙ ap (λ l. take at old ++ l) (sym (append_assoc p q _))
-
--- what stands there already
-pub put_same : (old : List Record) (at n : ℕ) → at + n ≤ length old → (old ≡ put old at (take n (drop at old))) × (length (take n (drop at old)) ≡ n)
-put_same old at n fits =
-    let long : length (take n (drop at old)) ≡ n = length-take-le n (drop at old) (omega (arith, length-drop at old)) in (
-      sym (ap (λ l. take at old ++ (take n (drop at old) ++ l)) (ap (λ k. drop (at + k) old) long ∙ sym (drop-drop n at old)) ∙ ap (λ l. take at old ++ l) (take-append-drop n (drop at old)) ∙ take-append-drop at old),
-      long,
-    )
 
 -- a part from the start stands in front
 pub put_front : (old part : List Record) (k : ℕ) → k ≡ length part → take k (put old 0 part) ≡ part

@@ -37,6 +37,11 @@ IsParts (Pair B C) begin k end None = ⊥
 IsParts (Leaf c) begin k end (Some parts) = ⊥
 IsParts (Leaf c) begin k end None = Unit {0}
 
+-- a rule with this expansion makes parts of the span (begin, end): a pair rule is cut at k inside it, and rewrites into two of n nonterminals; under a leaf rule the span is one entry
+abbrev pub Cuts : ℕ → ℕ → ℕ → ℕ → Expansion → Type 0
+Cuts n begin end k (Pair B C) = (begin < k) × (k < end) × (B < n) × (C < n)
+Cuts n begin end k (Leaf c) = begin + 1 ≡ end
+
 -- the entries of a chart
 abbrev pub entries_of : {g : _} → Chart Cost g → List ℕ
 entries_of chart = (state chart.entries).entries
@@ -101,6 +106,11 @@ abbrev pub PickedOf : (ℕ → ℕ → Type 0) → Meaning → Option Choice →
 PickedOf R m None = (i k : ℕ) → R i k → ⊥
 PickedOf R m (Some c) = Picked R m c
 
+-- what is chosen at a node: the first rival where there is one, and in any case parts to go on with
+pub record Chose (R : ℕ → ℕ → Type 0) (m : Meaning) (begin end : ℕ) (c : Choice) : Type 0 where
+  pub cuts : Cuts m.nonterminals begin end c.cut c.rule.expansion
+  pub picked : (i k : ℕ) → R i k → Picked R m c
+
 -- `old` with `part` written from `at` on
 abbrev pub put : List Record → ℕ → List Record → List Record
 put old at part = take at old ++ (part ++ drop (at + length part) old)
@@ -113,7 +123,7 @@ pub record Taken (weigh : Rule → Cost) (m : Meaning) (es : List ℕ) (cell : �
   pub rivals : ByRivals weigh m es cell begin end A tree
   pub lowest : ByFirst weigh m es cell begin end A tree
 
--- records were written from `at` on, as many as the tree of a span has, and nothing else; where the cells are filled and there is a derivation, they are those of a tree
+-- the records of a span were written from `at` on, as many as its tree has, and nothing else; where the cells are filled and there is a derivation, they are those of a tree
 pub record Wrote (weigh : Rule → Cost) (m : Meaning) (es : List ℕ) (cell : ℕ → ℕ → ℕ → Cost) (old : List Record) (at begin end A : ℕ) (new : List Record) : Type 0 where
   pub part : List Record
   pub puts : new ≡ put old at part

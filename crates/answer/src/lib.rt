@@ -2,4 +2,6 @@
 #![tactic(auto)]
 
 pub mod report;
+#[cfg(test)]
+mod tests;
 pub mod text;

@@ -68,3 +68,7 @@ write_refused k from code to = unless_in_range (nat_lt from k.states && nat_lt c
 -- the step is written, unless that is refused
 abbrev pub written_to : ℕ → ℕ → ℕ → Machine → Machine
 written_to from code to k = if_refused (write_refused k from code to) k (written from code to k)
+
+-- what stands in each place of a state's row where each state stays: 0 for a state that the automaton lacks
+abbrev pub stay_at : ℕ → ℕ → ℕ
+stay_at states s = cond (nat_lt s states) s 0

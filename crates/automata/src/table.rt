@@ -1,6 +1,7 @@
 // An automaton that is written step by step: a row for each state, with the state that a step on each code leads to.
-ghost use Rattle.std.specs.Prelude.{◌≡◌, ℕ, ◌<◌, ◌≤◌, [], length, OnErr, slice_index, slice_index_or};
+ghost use Rattle.std.specs.Prelude.{◌≡◌, ℕ, ◌<◌, ◌≤◌, [], length, replicate, OnErr, slice_index, slice_index_or};
 ghost use Rattle.grammar.specs.Derivations.{has};
+ghost use Rattle.automata.specs.Making.{stay_at};
 
 use crate::automaton::Automaton;
 use grammar::refusal::Refusal;
@@ -18,7 +19,7 @@ pub struct TableAutomaton {
     ghost coded: { codes ≤ 32 },
     ghost begins: { start < states },
     ghost whole: { (s : ℕ) → s < 8 → length (slice_index_or next s []) ≡ 32 },
-    ghost within: { (s c : ℕ) → s < states → c < 32 → slice_index (slice_index_or next s []) c < states },
+    ghost within: { (s c : ℕ) → s < 8 → c < 32 → slice_index (slice_index_or next s []) c < states },
 }
 
 impl TableAutomaton {
@@ -72,7 +73,7 @@ impl TableAutomaton {
             codes,
             start,
             accepting,
-            next: stay(),
+            next: stay(states),
         }
     }
 
@@ -87,11 +88,11 @@ impl TableAutomaton {
 
 impl Automaton for TableAutomaton {
     ghost use Rattle.automata.specs.Held.{table_machine};
-    ghost use Rattle.automata.specs.Laws.Machined.{table_works};
+    ghost use Rattle.automata.specs.Laws.Machined.{table_works, own_rows};
 
     ghost machine = { table_machine };
 
-    ghost working = { λ a. table_works a.states a.codes a.start a.accepting a.next a.some a.few a.readable a.coded a.begins a.within };
+    ghost working = { λ a. table_works a.states a.codes a.start a.accepting a.next a.some a.few a.readable a.coded a.begins (own_rows a.states a.next a.few a.within) };
 
     fn states(&self) -> u32 {
         self.states
@@ -126,12 +127,30 @@ fn is_in(set: u8, state: u32) -> bool
     (set >> state) % 2 == 1
 }
 
-// The rows in which each state stays.
-fn stay() -> [[u8; 32]; 8]
+// The rows in which each state stays. A row of a state that the automaton lacks holds zeros.
+fn stay(states: u32) -> [[u8; 32]; 8]
     ensures whole { (s : ℕ) → s < 8 → length (slice_index_or result s []) ≡ 32 }
-    ensures stay { (s c : ℕ) → s < 8 → c < 32 → slice_index (slice_index_or result s []) c ≡ s }
+    ensures stay { (s c : ℕ) → s < 8 → c < 32 → slice_index (slice_index_or result s []) c ≡ stay_at states s }
 {
     [
-        [0; 32], [1; 32], [2; 32], [3; 32], [4; 32], [5; 32], [6; 32], [7; 32],
+        row(0, states),
+        row(1, states),
+        row(2, states),
+        row(3, states),
+        row(4, states),
+        row(5, states),
+        row(6, states),
+        row(7, states),
     ]
+}
+
+// The row of one state among these.
+fn row(state: u8, states: u32) -> [u8; 32]
+    ensures { result ≡ replicate 32 (stay_at states state) }
+{
+    if u32::from(state) < states {
+        [state; 32]
+    } else {
+        [0; 32]
+    }
 }

@@ -4,7 +4,7 @@ use Rattle.std.proofs.Common.{ap, sym, subst, ◌∙◌, inl, inr, arith, get_or
 use Rattle.std.proofs.lemmas.Bool.{cases_eq}
 use Rattle.std.proofs.lemmas.List.{get_or-replicate}
 use Rattle.automata.specs.Machines.{Working}
-use Rattle.automata.specs.Making.{counting, written, staying}
+use Rattle.automata.specs.Making.{counting, written, staying, stay_at}
 use Rattle.automata.specs.Held.{table}
 use Rattle.grammar.specs.Derivations.{has}
 use Rattle.automata.specs.Laws.Truths.{and_left, and_right, and_both, cond_some}
@@ -58,6 +58,10 @@ table_works states codes start accepting next some few readable coded begins wit
   ends = λ s e. ltb-true s states (and_left (nat_lt s states) _ e);
 }
 
+-- where all eight rows lead to states alone, so do the rows of the states
+pub own_rows : (states : ℕ) (next : List (List ℕ)) → states ≤ 8 → ((s c : ℕ) → s < 8 → c < 32 → at next s c < states) → (s c : ℕ) → s < states → c < 32 → at next s c < states
+own_rows states next few within s c h k = within s c (omega arith) k
+
 -- ---- one step written
 
 -- the rows after a place is written
@@ -83,6 +87,14 @@ put_other next from code to s c hf h = elim (cases_eq s from) [
       ∙ ap (λ k. at next k c) (sym es)
   | inr apart ↦ ap (λ r. slice_index r c) (get_or-set_other next from s _ [] apart)
 ]
+
+-- a list keeps its bound where a place is written
+pub below_set : (xs : List ℕ) (k v b i : ℕ) → v < b → slice_index xs i < b → slice_index (slice_set xs k v) i < b
+below_set [] k v b i hv h = h
+below_set (x ∷ xs) zero v b zero hv h = hv
+below_set (x ∷ xs) zero v b (suc i) hv h = h
+below_set (x ∷ xs) (suc k) v b zero hv h = h
+below_set (x ∷ xs) (suc k) v b (suc i) hv h = below_set xs k v b i hv h
 
 -- a written row keeps its bound
 pub put_below : (next : List (List ℕ)) (states from code to : ℕ) → from < length next → code < length (slice_index_or next from []) → to < states
@@ -151,28 +163,32 @@ table_stays states codes start accepting next coded stay = λ i. record {
   accepts = λ s. nat_lt s states && has accepting s;
 }
 
--- the rows in which each of eight states stays
-abbrev pub stay_rows : List (List ℕ)
-stay_rows = replicate 32 0 ∷ replicate 32 1 ∷ replicate 32 2 ∷ replicate 32 3 ∷ replicate 32 4 ∷ replicate 32 5 ∷ replicate 32 6 ∷ replicate 32 7 ∷ []
+-- the row of a state, in the rows in which each state stays
+abbrev pub stay_row : ℕ → ℕ → List ℕ
+stay_row states s = replicate 32 (stay_at states s)
 
-pub rows_stay : (s c : ℕ) → s < 8 → c < 32 → at stay_rows s c ≡ s
-rows_stay zero c h k = get_or-replicate 32 c 0 0 k
-rows_stay (suc zero) c h k = get_or-replicate 32 c 1 0 k
-rows_stay (suc (suc zero)) c h k = get_or-replicate 32 c 2 0 k
-rows_stay (suc (suc (suc zero))) c h k = get_or-replicate 32 c 3 0 k
-rows_stay (suc (suc (suc (suc zero)))) c h k = get_or-replicate 32 c 4 0 k
-rows_stay (suc (suc (suc (suc (suc zero))))) c h k = get_or-replicate 32 c 5 0 k
-rows_stay (suc (suc (suc (suc (suc (suc zero)))))) c h k = get_or-replicate 32 c 6 0 k
-rows_stay (suc (suc (suc (suc (suc (suc (suc zero))))))) c h k = get_or-replicate 32 c 7 0 k
-rows_stay (suc (suc (suc (suc (suc (suc (suc (suc s)))))))) c h k = absurd (omega arith)
+-- the eight rows in which each state stays
+abbrev pub stay_rows : ℕ → List (List ℕ)
+stay_rows q = stay_row q 0 ∷ stay_row q 1 ∷ stay_row q 2 ∷ stay_row q 3 ∷ stay_row q 4 ∷ stay_row q 5 ∷ stay_row q 6 ∷ stay_row q 7 ∷ []
 
-pub rows_whole : (s : ℕ) → s < 8 → length (slice_index_or stay_rows s []) ≡ 32
-rows_whole zero h = refl
-rows_whole (suc zero) h = refl
-rows_whole (suc (suc zero)) h = refl
-rows_whole (suc (suc (suc zero))) h = refl
-rows_whole (suc (suc (suc (suc zero)))) h = refl
-rows_whole (suc (suc (suc (suc (suc zero))))) h = refl
-rows_whole (suc (suc (suc (suc (suc (suc zero)))))) h = refl
-rows_whole (suc (suc (suc (suc (suc (suc (suc zero))))))) h = refl
-rows_whole (suc (suc (suc (suc (suc (suc (suc (suc s)))))))) h = absurd (omega arith)
+pub rows_stay : (q s c : ℕ) → s < 8 → c < 32 → at (stay_rows q) s c ≡ stay_at q s
+rows_stay q zero c h k = get_or-replicate 32 c (stay_at q 0) 0 k
+rows_stay q (suc zero) c h k = get_or-replicate 32 c (stay_at q 1) 0 k
+rows_stay q (suc (suc zero)) c h k = get_or-replicate 32 c (stay_at q 2) 0 k
+rows_stay q (suc (suc (suc zero))) c h k = get_or-replicate 32 c (stay_at q 3) 0 k
+rows_stay q (suc (suc (suc (suc zero)))) c h k = get_or-replicate 32 c (stay_at q 4) 0 k
+rows_stay q (suc (suc (suc (suc (suc zero))))) c h k = get_or-replicate 32 c (stay_at q 5) 0 k
+rows_stay q (suc (suc (suc (suc (suc (suc zero)))))) c h k = get_or-replicate 32 c (stay_at q 6) 0 k
+rows_stay q (suc (suc (suc (suc (suc (suc (suc zero))))))) c h k = get_or-replicate 32 c (stay_at q 7) 0 k
+rows_stay q (suc (suc (suc (suc (suc (suc (suc (suc s)))))))) c h k = absurd (omega arith)
+
+pub rows_whole : (q s : ℕ) → s < 8 → length (slice_index_or (stay_rows q) s []) ≡ 32
+rows_whole q zero h = refl
+rows_whole q (suc zero) h = refl
+rows_whole q (suc (suc zero)) h = refl
+rows_whole q (suc (suc (suc zero))) h = refl
+rows_whole q (suc (suc (suc (suc zero)))) h = refl
+rows_whole q (suc (suc (suc (suc (suc zero))))) h = refl
+rows_whole q (suc (suc (suc (suc (suc (suc zero)))))) h = refl
+rows_whole q (suc (suc (suc (suc (suc (suc (suc zero))))))) h = refl
+rows_whole q (suc (suc (suc (suc (suc (suc (suc (suc s)))))))) h = absurd (omega arith)

@@ -42,6 +42,12 @@ row_means n t j (r ∷ rows) (suc i) f =
     row_means n t (suc j) rows i (fine_rest n t j r rows f)
     ∙ ap (λ b. rule_of b (slice_get (map as_added rows) i)) (omega arith)
 
+-- from their count on there is no rule, whatever the rows are
+pub row_past : (rows : List Rule) (i k : ℕ) → length rows ≤ i → rule_of k (slice_get (map as_added rows) i) ≡ None
+row_past [] i k h = refl
+row_past (r ∷ rows) zero k h = absurd (omega arith)
+row_past (r ∷ rows) (suc i) k h = row_past rows i k (omega arith)
+
 -- what is at a number is below the count, and is one of the fine rows
 found : (n t j : ℕ) (rows : List Rule) (i k : ℕ) (r : Rule) → all_fine n t j rows ≡ true → rule_of k (slice_get (map as_added rows) i) ≡ Some r → (i < length rows) × (is_declared n t r.lhs r.expansion ≡ true) × (r.cost ≤ 65535)
 found n t j [] i k r f e = absurd (no_some e)

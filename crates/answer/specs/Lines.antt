@@ -6,7 +6,7 @@ use Rattle.commands.specs.declared.fault.Fault.{Fault}
 use Rattle.commands.specs.Faults.{fault_text}
 use Rattle.tree.specs.declared.record.Record.{Record}
 use Rattle.answer.specs.declared.report.Totals.{Totals}
-use Rattle.answer.specs.declared.report.Report.{Report}
+use Rattle.answer.specs.Seen.{Report}
 
 -- the number of the refusal, and its place
 abbrev pub fault_line : Fault → List ℕ

@@ -2,7 +2,7 @@
 ghost use Rattle.std.specs.Prelude.{◌≡◌, Some, IfOk, string_bytes};
 ghost use Rattle.answer.specs.Lines.{totals_lines, node_lines, report_lines, answer_text};
 
-use crate::report::{Nodes, Report, Totals};
+use crate::report::{Answer, Nodes, Report, Totals};
 use commands::fault::Fault;
 use std::alloc::{AllocError, Global};
 use std::fmt;
@@ -48,12 +48,22 @@ impl fmt::Display for Report {
     }
 }
 
+// The line of a fault, or the lines of a report.
+impl fmt::Display for Answer<'_> {
+    ghost output = { λ a. Some (answer_text a.answer.now) };
+
+    fn fmt<W: fmt::Write>(&self, f: &mut fmt::Formatter<W>) -> fmt::Result {
+        match self.answer {
+            Ok(report) => write!(f, "{report}"),
+            Err(fault) => write!(f, "{fault}\n"),
+        }
+    }
+}
+
 // The text of an answer: the line of a fault, or the lines of a report.
 pub fn text(heap: Global, answer: &Result<Report, Fault>) -> Result<String, AllocError>
     ensures { IfOk result (λ s. string_bytes s ≡ answer_text answer.now) }
 {
-    match answer {
-        Ok(report) => format!(in heap; "{report}"),
-        Err(fault) => format!(in heap; "{fault}\n"),
-    }
+    let answer = Answer { answer };
+    format!(in heap; "{answer}")
 }

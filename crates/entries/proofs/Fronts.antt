@@ -1,7 +1,7 @@
 -- A call that takes the last entry off, or none, leaves a front of the entries. Assumes nothing.
 use Rattle.std.proofs.Common.{◌≡◌, ◌-◌, map, length, Ok, sym, ap, ◌∙◌}
 use Rattle.std.proofs.Math.Seq.{take-length}
-use Rattle.entries.specs.declared.list.Entries.{Entries}
+use Rattle.entries.specs.Lists.{Entries}
 use Rattle.entries.specs.declared.call.Call.{Call}
 use Rattle.entries.specs.Model.{State, state, bits_of, but_last, Terms, does, Did, Front}
 use Rattle.entries.proofs.Judging.{did_move}

@@ -1,7 +1,7 @@
 -- Accepted and refused calls, in the model's words. Assumes nothing.
 use Rattle.std.proofs.Common.{◌≡◌, ℕ, length, Ok, Err, Result, sym, ap, ◌∙◌, subst, MatchResult}
 use Rattle.grammar.specs.declared.refusal.Refusal.{Refusal}
-use Rattle.entries.specs.declared.list.Entries.{Entries}
+use Rattle.entries.specs.Lists.{Entries}
 use Rattle.entries.specs.declared.call.Call.{Call}
 use Rattle.entries.specs.Model.{state, Terms, verdict, replace_tests, answer, after, does, Did}
 use Rattle.entries.proofs.Listing.{size}

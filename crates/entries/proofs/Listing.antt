@@ -2,7 +2,7 @@
 use Rattle.std.proofs.Common.{◌≡◌, ℕ, ◌-◌, Bool, List, map, length, take, ap, ◌∙◌, sym}
 use Rattle.std.proofs.lemmas.List.{length-map, take-map}
 use Rattle.entries.specs.declared.entry.Entry.{Entry}
-use Rattle.entries.specs.declared.list.Entries.{Entries}
+use Rattle.entries.specs.Lists.{Entries}
 use Rattle.entries.specs.Model.{state, bits_of, but_last, Fields}
 
 -- as many as the list holds

@@ -4,7 +4,7 @@ use Rattle.grammar.specs.Grammars.{Meaning}
 use Rattle.grammar.specs.declared.refusal.Refusal.{Refusal}
 use Rattle.grammar.specs.declared.refusal.Refusal.TheVariants.{BadEntry, TrialOpen, NoRoom, NoEntry, NoTrial, OtherGrammar}
 use Rattle.entries.specs.declared.entry.Entry.{Entry}
-use Rattle.entries.specs.declared.list.Entries.{Entries}
+use Rattle.entries.specs.Lists.{Entries}
 use Rattle.entries.specs.declared.call.Call.{Call}
 use Rattle.entries.specs.declared.call.Call.TheVariants.{Clear, Append, TakeBack, Replace, Try, Keep, Withdraw}
 use Rattle.entries.specs.Spans.{triangle, full}

@@ -98,6 +98,7 @@ impl Entries {
     // Sets the mark, and hands out the token that keep or withdraw takes back.
     pub fn open_trial(&mut self) -> Trial
         ensures marked { Fields self.new self.old.list.items true self.old.nonterminals }
+        ensures list { self.new.list ≡ self.old.list }
         ensures unspent { result.spent ≡ false }
     {
         self.mark(true);

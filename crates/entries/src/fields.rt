@@ -1,5 +1,5 @@
 // The steps that calls are made of: one entry more, one fewer, another one at a place, and the mark.
-ghost use Rattle.std.specs.Prelude.{◌-◌, ◌<◌, false, [], ◌∷◌, ◌++◌, length, take, slice_set};
+ghost use Rattle.std.specs.Prelude.{◌≡◌, ◌-◌, ◌<◌, false, [], ◌∷◌, ◌++◌, length, take, slice_set};
 ghost use Rattle.entries.specs.Model.{Fields};
 
 use crate::entry::Entry;
@@ -30,7 +30,8 @@ impl Entries {
 
     // With this mark.
     pub(crate) fn mark(&mut self, trial: bool)
-        ensures { Fields self.new self.old.list.items trial self.old.nonterminals }
+        ensures fields { Fields self.new self.old.list.items trial self.old.nonterminals }
+        ensures list { self.new.list ≡ self.old.list }
     {
         self.trial = trial;
     }

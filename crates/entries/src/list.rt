@@ -3,6 +3,7 @@ ghost use Rattle.std.specs.Prelude.{◌≤◌, length};
 
 use crate::entry::Entry;
 use lists::list::List;
+use std::marker::Model;
 
 #[derive(Clone, Copy)]
 pub struct Entries {
@@ -10,4 +11,18 @@ pub struct Entries {
     pub(crate) trial: bool,
     pub(crate) nonterminals: u32,
     ghost few: { length list.items ≤ 64 },
+}
+
+// A clause sees the fields as they are. A struct that holds a list is copied where it is passed by value only if it has a view of its own.
+impl Model for Entries {
+    ghost use Rattle.std.specs.Prelude.{refl};
+    ghost use Rattle.entries.specs.Lists.{Entries as Seen};
+
+    ghost Value = { Seen };
+
+    ghost view = { λ e. record { list = e.list; trial = e.trial; nonterminals = e.nonterminals; few = e.few } };
+
+    ghost inverse = { λ v. record { list = v.list; trial = v.trial; nonterminals = v.nonterminals; few = v.few } };
+
+    ghost inverse_ok = { λ e l. refl };
 }

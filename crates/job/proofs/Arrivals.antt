@@ -5,7 +5,7 @@ use Rattle.table.specs.Tables.{as_added}
 use Rattle.semiring.specs.YesNoLaws.{yes_no_laws}
 use Rattle.semiring.specs.CountLaws.{count_laws}
 use Rattle.semiring.specs.CostLaws.{cost_laws}
-use Rattle.automata.specs.Laws.Machined.{table_works}
+use Rattle.automata.specs.Laws.Machined.{table_works, own_rows}
 use Rattle.layers.specs.Laws.Renamed.{recording}
 use Rattle.layers.specs.declared.readings.Readings.{Readings}
 use Rattle.grammar.specs.Grammars.{Meaning}
@@ -13,7 +13,7 @@ use Rattle.table.specs.Drafts.{sealed}
 use Rattle.entries.specs.declared.call.Call.{Call}
 use Rattle.job.specs.declared.description.Description.{Description}
 use Rattle.job.specs.Held.{recorder_in, held}
-use Rattle.answer.specs.declared.report.Report.{Report}
+use Rattle.answer.specs.Seen.{Report}
 use Rattle.job.specs.Appending.{appended}
 use Rattle.job.specs.Describing.{Described, stack, stacked, nonterminals_of}
 use Rattle.job.specs.Outcomes.{Takes}
@@ -57,6 +57,6 @@ held_small d =
     record {
       few = t.shape.few;
       rules = omega (arith, length-map (take t.count t.rows.now) as_added, length-take-le t.count t.rows.now t.room, t.short);
-      works = table_works a.states a.codes a.start a.accepting a.next a.some a.few a.readable a.coded a.begins a.within;
+      works = table_works a.states a.codes a.start a.accepting a.next a.some a.few a.readable a.coded a.begins (own_rows a.states a.next a.few a.within);
       records = recording_in d.readings;
     }

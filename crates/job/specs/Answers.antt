@@ -6,7 +6,7 @@ use Rattle.layers.specs.Ban.{ban}
 use Rattle.layers.specs.Intersection.{intersection, intersection_refused}
 use Rattle.layers.specs.Renaming.{Recorder, renaming_refused}
 use Rattle.commands.specs.declared.fault.Fault.{Fault}
-use Rattle.answer.specs.declared.report.Report.{Report}
+use Rattle.answer.specs.Seen.{Report}
 use Rattle.job.specs.Describing.{Described, stack}
 use Rattle.job.specs.Outcomes.{Takes, FirstFault}
 use Rattle.job.specs.Reports.{Comes}

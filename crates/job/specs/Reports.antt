@@ -14,7 +14,7 @@ use Rattle.tree.specs.declared.record.Record.{Record}
 use Rattle.tree.specs.Trees.{Underivable}
 use Rattle.runs.specs.Runs.{run}
 use Rattle.runs.specs.Trees.{CheapestRecords}
-use Rattle.answer.specs.declared.report.Report.{Report}
+use Rattle.answer.specs.Seen.{Report}
 
 -- the entries of a chart with so many slots after the calls: those that were accepted
 abbrev pub accepted : Meaning → ℕ → List Call → List ℕ

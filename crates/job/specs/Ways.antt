@@ -14,7 +14,7 @@ use Rattle.automata.specs.Machines.{Accepted}
 use Rattle.layers.specs.Ban.{Free}
 use Rattle.layers.specs.Renaming.{Recorder}
 use Rattle.layers.specs.Promises.{WhenRead}
-use Rattle.answer.specs.declared.report.Report.{Report}
+use Rattle.answer.specs.Seen.{Report}
 use Rattle.job.specs.Describing.{Described}
 
 -- a word of the job's codes, and a tree of the table's rules

@@ -2,7 +2,7 @@
 use Rattle.std.specs.Prelude.{ℕ, cond, List, None, Option, nat_lt, slice_index_or}
 use Rattle.grammar.specs.Grammars.{Meaning}
 use Rattle.automata.specs.Machines.{Machine}
-use Rattle.layers.specs.declared.bans.Bans.{Bans}
+use Rattle.layers.specs.Listing.{Bans}
 use Rattle.layers.specs.declared.readings.Readings.{Readings}
 use Rattle.layers.specs.declared.ban.Ban.{Ban}
 use Rattle.layers.specs.declared.intersection.Intersection.{Intersection}

@@ -1,3 +1,4 @@
+pub mod Listing
 pub mod Ban
 pub mod Reversal
 pub mod Intersection

@@ -45,6 +45,8 @@ impl<G: Grammar> Grammar for Ban<G> {
         self.below.bound()
     }
 
+    // in line, since a chart asks it in its innermost loops
+    #[inline(always)]
     fn rule(&self, number: u32) -> Option<Rule> {
         if self.bans.has(number) {
             None

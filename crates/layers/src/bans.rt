@@ -1,13 +1,29 @@
 // A list of at most sixteen rule numbers, to be banned.
-ghost use Rattle.std.specs.Prelude.{◌≡◌, [], OnErr};
+ghost use Rattle.std.specs.Prelude.{◌≡◌, ◌≤◌, [], length, OnErr};
 ghost use Rattle.layers.specs.Ban.{among};
 
 use grammar::refusal::Refusal;
 use lists::list::List;
+use std::marker::Model;
 
 #[derive(Clone, Copy)]
 pub struct Bans {
     numbers: List<u32, 16>,
+    ghost few: { length numbers.items ≤ 16 },
+}
+
+// A clause sees the fields as they are. A struct that holds a list is copied where it is passed by value only if it has a view of its own.
+impl Model for Bans {
+    ghost use Rattle.std.specs.Prelude.{refl};
+    ghost use Rattle.layers.specs.Listing.{Bans as Seen};
+
+    ghost Value = { Seen };
+
+    ghost view = { λ b. record { numbers = b.numbers; few = b.few } };
+
+    ghost inverse = { λ v. record { numbers = v.numbers; few = v.few } };
+
+    ghost inverse_ok = { λ b l. refl };
 }
 
 impl Bans {
@@ -30,7 +46,12 @@ impl Bans {
         ensures means { banned self.new ≡ added number (banned self.old) }
         ensures same { OnErr result (self.new ≡ self.old) }
     {
-        self.numbers.push(number).map_err(|_| Refusal::TooManyBans)
+        if self.numbers.len() < 16 {
+            self.numbers.push(number).unwrap();
+            Ok(())
+        } else {
+            Err(Refusal::TooManyBans)
+        }
     }
 
     // Whether a number is banned.

@@ -109,6 +109,7 @@ impl<G: Grammar, M: Automaton> Grammar for Intersection<G, M> {
         }
     }
 
+    #[inline(always)]
     fn bound(&self) -> u32 {
         match self.refused() {
             Some(_) => 0,
@@ -119,6 +120,8 @@ impl<G: Grammar, M: Automaton> Grammar for Intersection<G, M> {
         }
     }
 
+    // in line, since a chart asks it in its innermost loops
+    #[inline(always)]
     fn rule(&self, number: u32) -> Option<Rule> {
         match self.refused() {
             Some(_) => None,

@@ -80,6 +80,7 @@ impl<G: Grammar> Grammar for Renaming<G> {
         }
     }
 
+    #[inline(always)]
     fn bound(&self) -> u32 {
         match self.refused() {
             Some(_) => 0,
@@ -87,6 +88,8 @@ impl<G: Grammar> Grammar for Renaming<G> {
         }
     }
 
+    // in line, since a chart asks it in its innermost loops
+    #[inline(always)]
     fn rule(&self, number: u32) -> Option<Rule> {
         match self.refused() {
             Some(_) => None,

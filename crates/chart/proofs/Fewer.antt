@@ -11,7 +11,7 @@ use Rattle.grammar.specs.Totals.{TotalOf, weight_of, by}
 use Rattle.grammar.specs.Spans.{span, Stands}
 use Rattle.entries.specs.Spans.{triangle}
 use Rattle.chart.specs.Cells.{cell_at}
-use Rattle.entries.specs.declared.list.Entries.{Entries}
+use Rattle.entries.specs.Lists.{Entries}
 use Rattle.entries.specs.Model.{state, Front}
 use Rattle.entries.proofs.Listing.{size}
 use Rattle.chart.specs.declared.chart.Chart.{Chart}

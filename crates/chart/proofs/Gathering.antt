@@ -5,7 +5,6 @@ use Rattle.std.specs.List.{AllByRecursion}
 use Rattle.std.proofs.ByRecursion.{All-push}
 use Rattle.grammar.specs.declared.rule.Rule.{Rule}
 use Rattle.grammar.specs.Grammars.{Meaning, Shown}
-use Rattle.chart.specs.declared.gathered.Gathered.{Gathered}
 use Rattle.chart.specs.Gathers.{Named, pushed, rules_below, Gathers}
 use Rattle.chart.proofs.Rows.{names_of}
 
@@ -18,17 +17,17 @@ module _ (m : Meaning) where
   unfolding rules_below
   below_more k = ap (rules_below m) (add-one k)
 
-  pub gathers_none : (g : Gathered) → g.rules.items ≡ [] → g.next ≡ 0 → Gathers m g
-  gathers_none g rules next = record {
+  pub gathers_none : (rs : List Rule) (at : ℕ) → rs ≡ [] → at ≡ 0 → Gathers m rs at
+  gathers_none rs at rules next = record {
     below = omega arith;
     rules = rules ∙ sym (ap (rules_below m) next ∙ below_none);
   }
 
   -- one number more
-  pub gathers_more : (g g' : Gathered) → g'.rules.items ≡ pushed g.rules.items (m.rule g.next) → g'.next ≡ g.next + 1 → g.next < m.bound → Gathers m g → Gathers m g'
-  gathers_more g g' rules next within before = record {
+  pub gathers_more : (rs rs' : List Rule) (at at' : ℕ) → rs' ≡ pushed rs (m.rule at) → at' ≡ at + 1 → at < m.bound → Gathers m rs at → Gathers m rs' at'
+  gathers_more rs rs' at at' rules next within before = record {
     below = omega arith;
-    rules = rules ∙ ap (λ l. pushed l (m.rule g.next)) before.rules ∙ sym (ap (rules_below m) next ∙ below_more g.next);
+    rules = rules ∙ ap (λ l. pushed l (m.rule at)) before.rules ∙ sym (ap (rules_below m) next ∙ below_more at);
   }
 
   -- the rules of a grammar name only nonterminals that it has
@@ -43,6 +42,6 @@ module _ (m : Meaning) where
   named_below shown zero = tt
   named_below shown (suc k) = named_more shown k (rules_below m k) (m.rule k) refl (named_below shown k)
 
-  pub named_at_hand : Shown m → (g : Gathered) {n : ℕ} → n ≡ m.nonterminals → Gathers m g → AllByRecursion (Named n) g.rules.items
-  named_at_hand shown g own gathers =
-      subst⁻¹ (λ k. AllByRecursion (Named k) g.rules.items) own (subst⁻¹ (AllByRecursion (Named m.nonterminals)) gathers.rules (named_below shown g.next))
+  pub named_at_hand : Shown m → (rs : List Rule) (next : ℕ) {n : ℕ} → n ≡ m.nonterminals → Gathers m rs next → AllByRecursion (Named n) rs
+  named_at_hand shown rs next own gathers =
+      subst⁻¹ (λ k. AllByRecursion (Named k) rs) own (subst⁻¹ (AllByRecursion (Named m.nonterminals)) gathers.rules (named_below shown next))

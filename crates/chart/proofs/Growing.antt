@@ -1,7 +1,7 @@
 -- One entry more, or another in its place: how many there are then, and that there is room for them. Assumes nothing.
 use Rattle.std.proofs.Common.{◌≡◌, ℕ, ◌+◌, ◌*◌, ◌≤◌, [], ◌∷◌, ◌++◌, length, Ok, sym, ap, ◌∙◌, subst}
 use Rattle.std.proofs.lemmas.List.{length_push, length-set}
-use Rattle.entries.specs.declared.list.Entries.{Entries}
+use Rattle.entries.specs.Lists.{Entries}
 use Rattle.entries.specs.declared.call.Call.TheVariants.{Append, Replace}
 use Rattle.entries.specs.Spans.{triangle}
 use Rattle.entries.specs.Model.{State, state, Terms, Did}

@@ -1,5 +1,5 @@
 -- Cells of different spans lie apart. Assumes nothing.
-use Rattle.std.proofs.Common.{◌≡◌, ℕ, zero, suc, ◌+◌, ◌-◌, ◌*◌, ◌/◌, ◌<◌, ◌≤◌, sym, refl, ap, ◌∙◌, inl, inr, mul-le-mul_right, mul_comm, add-mul, mul-add, arith}
+use Rattle.std.proofs.Common.{◌≡◌, ℕ, zero, suc, ◌+◌, ◌-◌, ◌*◌, ◌/◌, ◌<◌, ◌≤◌, sym, refl, ap, ◌∙◌, inl, inr, mul-le-mul_right, mul_comm, add-mul, mul-le-mul, mul-add, arith}
 use native.Mathlib.Nat.{add-mul-div_right}
 use Rattle.std.proofs.lemmas.Bool.{cases_lt}
 use Rattle.entries.specs.Spans.{triangle}
@@ -96,3 +96,26 @@ unfolding place
 column_next n e =
     let t : triangle e + e ≡ triangle (e + 1) + 0 = omega (arith, triangle_more e) in
     ap (λ k. k * n + 0) t
+
+-- the same cell of the span with one entry more at its end, and of the one that begins an entry later
+pub place_wider : (n b e a : ℕ) → place n b (e + 1) a ≡ place n b e a + e * n
+unfolding place
+place_wider n b e a =
+    let t : triangle (e + 1) + b ≡ triangle e + b + e = omega (arith, triangle_more e) in
+    omega (arith, ap (λ k. k * n) t, add-mul (triangle e + b) e n)
+
+pub place_next : (n b e a : ℕ) → place n (b + 1) e a ≡ place n b e a + n
+unfolding place
+place_next n b e a =
+    let t : triangle e + (b + 1) ≡ triangle e + b + 1 = omega arith in
+    omega (arith, ap (λ k. k * n) t, add-mul (triangle e + b) 1 n)
+
+triangle_last : triangle 65 ≡ 2080
+unfolding triangle
+triangle_last = refl
+
+pub place_small : (n b e : ℕ) → n ≤ 4096 → e ≤ 64 → b ≤ e → place n b e 0 ≤ 16777216
+unfolding place
+place_small n b e h k l =
+    let most : triangle e + b ≤ 2080 = omega (arith, triangle_step e 65 (omega arith), triangle_last) in
+    omega (arith, mul-le-mul most h)

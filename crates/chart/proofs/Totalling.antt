@@ -12,7 +12,7 @@ use Rattle.grammar.proofs.Closure.{total_none}
 use Rattle.grammar.proofs.Shapes.{entries_length, some_leaf}
 use Rattle.grammar.proofs.Spanning.{span_all}
 use Rattle.grammar.proofs.Starts.{total_starts}
-use Rattle.entries.specs.declared.list.Entries.{Entries}
+use Rattle.entries.specs.Lists.{Entries}
 use Rattle.chart.specs.Cells.{cell_at}
 use Rattle.entries.specs.Model.{state}
 use Rattle.chart.specs.Reads.{whole_total, total_answer}

@@ -3,7 +3,6 @@ use Rattle.std.specs.Prelude.{◌≡◌, ℕ, zero, suc, ◌<◌, ◌≤◌, Lis
 use Rattle.grammar.specs.declared.rule.Rule.{Rule}
 use Rattle.grammar.specs.Grammars.{Meaning}
 use Rattle.chart.specs.Cells.{Names}
-use Rattle.chart.specs.declared.gathered.Gathered.{Gathered}
 
 -- a rule names only nonterminals below n
 abbrev pub Named : ℕ → Rule → Type 0
@@ -19,7 +18,7 @@ unfoldable pub rules_below : Meaning → ℕ → List Rule
 rules_below m zero = []
 rules_below m (suc k) = pushed (rules_below m k) (m.rule k)
 
--- the rules of the numbers below `next` are at hand
-pub record Gathers (m : Meaning) (g : Gathered) : Type 0 where
-  pub below : g.next ≤ m.bound
-  pub rules : g.rules.items ≡ rules_below m g.next
+-- the rules of the numbers below `next` are at hand, and are the list rs
+pub record Gathers (m : Meaning) (rs : List Rule) (next : ℕ) : Type 0 where
+  pub below : next ≤ m.bound
+  pub rules : rs ≡ rules_below m next

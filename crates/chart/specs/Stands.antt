@@ -4,7 +4,7 @@ use Rattle.semiring.specs.Semirings.{Operations}
 use Rattle.grammar.specs.Grammars.{Meaning}
 use Rattle.grammar.specs.Totals.{by}
 use Rattle.grammar.specs.Spans.{Stands}
-use Rattle.entries.specs.declared.list.Entries.{Entries}
+use Rattle.entries.specs.Lists.{Entries}
 use Rattle.entries.specs.Model.{state}
 use Rattle.chart.specs.Cells.{cell_at}
 

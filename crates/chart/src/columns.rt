@@ -1,13 +1,14 @@
 // Filling the spans that end at one place, narrow ones first.
-ghost use Rattle.std.specs.Prelude.{◌≡◌, ◌<◌, length, All};
+ghost use Rattle.std.specs.Prelude.{◌≡◌, ◌<◌, ◌≤◌, length, All};
 ghost use Rattle.grammar.specs.Totals.{by};
 ghost use Rattle.chart.specs.Cells as cells;
 ghost use Rattle.chart.specs.Columns as columns;
+ghost use Rattle.chart.specs.Sums.{Later};
 
 use super::column::Column;
 use super::filling::Filling;
 use super::span::Span;
-use super::sums::{Key, Sum, note_pairs};
+use super::sums::{Key, Sum};
 use grammar::grammar::Grammar;
 use grammar::weighing::Weighing;
 use semiring::semiring::Semiring;
@@ -37,6 +38,7 @@ impl<'a, G: Grammar, W: Weighing> Column<'a, G, W> {
     fn fill_rows(&self, slots: &mut [W::Value], sums: &mut [Sum<W::Value>])
         requires room { cells.Room self.now.widest.span.cells self.now.widest.span.end (length slots.old) }
         requires zero { columns.Column W.Value.Semiring.ring (by (W.weight self.now.widest.weighing.now)) (G.meaning self.now.widest.grammar.now) self.now.widest.last.bits self.now.upto self.now.upto self.now.widest.span.end slots.old slots.old }
+        requires later { Later self.now.upto sums.old }
         ensures { columns.Column W.Value.Semiring.ring (by (W.weight self.now.widest.weighing.now)) (G.meaning self.now.widest.grammar.now) self.now.widest.last.bits 0 self.now.upto self.now.widest.span.end slots.old slots.new }
     {
         let Span { end, cells, .. } = self.widest.span;
@@ -44,7 +46,9 @@ impl<'a, G: Grammar, W: Weighing> Column<'a, G, W> {
             let row = Filling {
                 grammar: self.widest.grammar,
                 weighing: self.widest.weighing,
-                gathered: self.widest.gathered,
+                rules: self.widest.rules,
+                next: self.widest.next,
+                bound: self.widest.bound,
                 span: Span { begin, end, cells },
                 last: self.widest.last,
             };
@@ -52,19 +56,21 @@ impl<'a, G: Grammar, W: Weighing> Column<'a, G, W> {
         }
     }
 
-    // Fills its spans, with room for so many sums.
+    // Fills its spans, with room for so many sums, of which none is of its spans yet.
     fn fill_with(&self, slots: &mut [W::Value], sums: &mut [Sum<W::Value>])
         requires room { cells.Room self.now.widest.span.cells self.now.widest.span.end (length slots.old) }
+        requires later { Later self.now.upto sums.old }
         ensures { columns.Column W.Value.Semiring.ring (by (W.weight self.now.widest.weighing.now)) (G.meaning self.now.widest.grammar.now) self.now.widest.last.bits 0 self.now.upto self.now.widest.span.end slots.old slots.new }
     {
-        let used = note_pairs(sums, self.widest.gathered.rules.as_slice());
         self.clear(slots);
-        self.fill_rows(slots, &mut sums[0..used]);
+        self.fill_rows(slots, sums);
     }
 
-    // Fills its spans with shared sums, of which there are fewer than slots.
-    fn fill_shared(&self, slots: &mut [W::Value])
+    // Fills its spans with shared sums, of which there are fewer than slots. A function pays at its entry for its locals: so the sums are those of a function of its own.
+    #[inline(never)]
+    fn fill_shared<const N: usize>(&self, slots: &mut [W::Value])
         requires room { cells.Room self.now.widest.span.cells self.now.widest.span.end (length slots.old) }
+        requires few { N ≤ 64 }
         requires many { 64 < length slots.old }
         ensures { columns.Column W.Value.Semiring.ring (by (W.weight self.now.widest.weighing.now)) (G.meaning self.now.widest.grammar.now) self.now.widest.last.bits 0 self.now.upto self.now.widest.span.end slots.old slots.new }
     {
@@ -74,22 +80,26 @@ impl<'a, G: Grammar, W: Weighing> Column<'a, G, W> {
                 left: u32::MAX,
                 right: u32::MAX,
             },
+            begin: usize::MAX,
             value: W::Value::zero(),
         };
-        let mut sums = [blank; 64];
+        let mut sums = [blank; N];
         self.fill_with(slots, &mut sums);
     }
 
-    // Fills its spans. A chart of few slots goes without shared sums.
+    // Fills its spans. A chart of few slots goes without shared sums, and so does one of wide values, of which 64 would take much memory; one rule shares with no other.
     pub(crate) fn fill(&self, slots: &mut [W::Value])
         requires room { cells.Room self.now.widest.span.cells self.now.widest.span.end (length slots.old) }
         ensures { columns.Column W.Value.Semiring.ring (by (W.weight self.now.widest.weighing.now)) (G.meaning self.now.widest.grammar.now) self.now.widest.last.bits 0 self.now.upto self.now.widest.span.end slots.old slots.new }
     {
-        if slots.len() > 64 {
-            self.fill_shared(slots);
-        } else {
+        let rules = self.widest.rules.len();
+        if rules < 2 || slots.len() <= 64 || 1 * size_of::<W::Value>() > 64 {
             let mut none = [];
             self.fill_with(slots, &mut none);
+        } else if rules <= 16 {
+            self.fill_shared::<16>(slots);
+        } else {
+            self.fill_shared::<64>(slots);
         }
     }
 }

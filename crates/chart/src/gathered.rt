@@ -1,19 +1,38 @@
 // The rules of a grammar, asked for once and then at hand for each span.
-ghost use Rattle.std.specs.Prelude.{◌≡◌, ◌+◌, ◌-◌, ◌^◌, ◌<◌, MatchResult};
+ghost use Rattle.std.specs.Prelude.{◌≡◌, ◌+◌, ◌-◌, ◌^◌, ◌<◌, [], MatchResult};
 ghost use Rattle.chart.specs.Gathers.{pushed, Gathers};
 
 use grammar::grammar::Grammar;
 use grammar::rule::Rule;
 use lists::list::{Full, List};
 
-// The rules of the numbers below `next`, in order. `next` is kept and moved on, since a rule for which there is no room ends the gathering before it.
-#[derive(Drop)]
-pub(crate) struct Gathered {
-    pub(crate) rules: List<Rule, 256>,
+// The rules of the numbers below `next`, in order, where they lie.
+#[derive(Clone, Copy)]
+pub(crate) struct AtHand<'a> {
+    pub(crate) rules: &'a [Rule],
     pub(crate) next: u32,
 }
 
-impl Gathered {
+impl AtHand<'_> {
+    // No rules.
+    pub(crate) fn none() -> AtHand<'static>
+        ensures { (result.rules.now ≡ []) × (result.next ≡ 0) }
+    {
+        AtHand {
+            rules: &[],
+            next: 0,
+        }
+    }
+}
+
+// The rules of the numbers below `next`, in order. `next` is kept and moved on, since a rule for which there is no room ends the gathering before it.
+#[derive(Drop)]
+pub(crate) struct Gathered<const N: usize> {
+    pub(crate) rules: List<Rule, N>,
+    pub(crate) next: u32,
+}
+
+impl<const N: usize> Gathered<N> {
     // Takes in the rule that there may be at the number `next`; where there is no room for it, all stays.
     fn take_next<G: Grammar>(&mut self, grammar: &G) -> Result<(), Full>
         requires { self.old.next < 2 ^ 32 - 1 }
@@ -27,8 +46,8 @@ impl Gathered {
     }
 
     // The rules of the first numbers: of as many as there is room for.
-    pub(crate) fn of<G: Grammar>(grammar: &G) -> Gathered
-        ensures { Gathers (G.meaning grammar.now) result }
+    pub(crate) fn of<G: Grammar>(grammar: &G) -> Gathered<N>
+        ensures { Gathers (G.meaning grammar.now) result.rules.items result.next }
     {
         let mut gathered = Gathered {
             rules: List::new(Rule::BLANK),
@@ -40,5 +59,15 @@ impl Gathered {
             }
         }
         gathered
+    }
+
+    // The rules, where they lie.
+    pub(crate) fn lend(&self) -> AtHand<'_>
+        ensures { (result.rules.now ≡ self.now.rules.items) × (result.next ≡ self.now.next) }
+    {
+        AtHand {
+            rules: self.rules.as_slice(),
+            next: self.next,
+        }
     }
 }

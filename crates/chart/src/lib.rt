@@ -9,6 +9,7 @@ mod columns;
 mod edits;
 mod filling;
 mod gathered;
+mod listing;
 mod reads;
 mod replaces;
 mod shares;

@@ -30,11 +30,11 @@ impl<'a, S: Semiring> Chart<'a, S> {
         }
     }
 
-    // The entries and the mark.
-    pub fn entries(&self) -> &Entries
-        ensures { result.now ≡ self.now.entries }
+    // The entries and the mark, as they are now.
+    pub fn entries(&self) -> Entries
+        ensures { result ≡ self.now.entries }
     {
-        &self.entries
+        self.entries
     }
 
     // The value of the cell of a nonterminal and the span from `begin` to `end`, if that is in use.
@@ -76,20 +76,19 @@ impl<'a, S: Semiring> Chart<'a, S> {
     {
         let mut sum = S::zero();
         for a in 0..self.entries.nonterminals() {
-            sum = sum.add(self.start_cell(grammar, a));
+            if grammar.is_start(a) {
+                sum = sum.add(self.whole_cell(a));
+            }
         }
         sum
     }
 
-    // The cell of all entries and a nonterminal, where that is a start, and else zero.
-    fn start_cell<G: Grammar>(&self, grammar: &G, a: u32) -> S
+    // The cell of all entries and a nonterminal.
+    fn whole_cell(&self, a: u32) -> S
         requires some { 0 < (length self.now.entries.list.items) }
         requires named { a < self.now.entries.nonterminals }
-        ensures { result ≡ (if (G.meaning grammar.now).start a then cell_at S.ring self.now.entries.nonterminals self.now.slots.cells.now 0 (length self.now.entries.list.items) a else S.ring.zero) }
+        ensures { result ≡ cell_at S.ring self.now.entries.nonterminals self.now.slots.cells.now 0 (length self.now.entries.list.items) a }
     {
-        if !grammar.is_start(a) {
-            return S::zero();
-        }
         let whole = Span {
             begin: 0,
             end: self.entries.len(),

@@ -6,7 +6,7 @@ ghost use Rattle.grammar.specs.Totals.{by};
 ghost use Rattle.chart.specs.Cells as cells;
 ghost use Rattle.chart.specs.Columns as columns;
 ghost use Rattle.chart.specs.Gathers.{Named};
-ghost use Rattle.chart.specs.Sums.{Known};
+ghost use Rattle.chart.specs.Sums.{Known, Later};
 
 use super::cells::Cells;
 use super::filling::Filling;
@@ -36,11 +36,12 @@ impl<'a, G: Grammar, W: Weighing> Filling<'a, G, W> {
     }
 
     // What a rule adds to its cell: a pair rule, at a span of several entries, its weight times the sum over the cuts; a leaf rule its weight, at one entry that has its code.
-    fn share(&self, slots: &[W::Value], sums: &[Sum<W::Value>], rule: &Rule) -> Option<W::Value>
+    fn share(&self, slots: &[W::Value], sums: &mut [Sum<W::Value>], rule: &Rule) -> Option<W::Value>
         requires named { Named self.now.span.cells rule.now }
-        requires known { Known W.Value.Semiring.ring self.now.span slots.now sums.now }
-        ensures { let share = spans.share W.Value.Semiring.ring (cells.cell_at W.Value.Semiring.ring self.now.span.cells slots.now) (by (W.weight self.now.weighing.now) rule.now) self.now.last.bits self.now.span.begin self.now.span.end rule.now.expansion in
+        requires known { Known W.Value.Semiring.ring self.now.span slots.now sums.old }
+        ensures share { let share = spans.share W.Value.Semiring.ring (cells.cell_at W.Value.Semiring.ring self.now.span.cells slots.now) (by (W.weight self.now.weighing.now) rule.now) self.now.last.bits self.now.span.begin self.now.span.end rule.now.expansion in
             MatchOption result (share ≡ W.Value.Semiring.ring.zero) (λ v. v ≡ share) }
+        ensures known { Known W.Value.Semiring.ring self.now.span slots.now sums.new }
     {
         match rule.expansion {
             Expansion::Pair { left, right } => {
@@ -65,11 +66,11 @@ impl<'a, G: Grammar, W: Weighing> Filling<'a, G, W> {
     }
 
     // Adds a rule's share to its cell.
-    fn add_rule(&self, slots: &mut [W::Value], sums: &[Sum<W::Value>], rule: &Rule)
+    fn add_rule(&self, slots: &mut [W::Value], sums: &mut [Sum<W::Value>], rule: &Rule)
         requires named { Named self.now.span.cells rule.now }
-        requires known { Known W.Value.Semiring.ring self.now.span slots.old sums.now }
+        requires known { Known W.Value.Semiring.ring self.now.span slots.old sums.old }
         ensures added { slots.new ≡ columns.with_rule W.Value.Semiring.ring (by (W.weight self.now.weighing.now)) self.now.span.cells self.now.last.bits self.now.span.begin self.now.span.end slots.old rule.now }
-        ensures known { Known W.Value.Semiring.ring self.now.span slots.new sums.now }
+        ensures known { Known W.Value.Semiring.ring self.now.span slots.new sums.new }
     {
         if let Some(share) = self.share(slots, sums, rule) {
             add_to_cell(slots, self.span, rule.lhs as usize, share);
@@ -77,21 +78,21 @@ impl<'a, G: Grammar, W: Weighing> Filling<'a, G, W> {
     }
 
     // Adds the shares of the rules at hand, one after the other.
-    fn add_rules(&self, slots: &mut [W::Value], sums: &[Sum<W::Value>])
-        requires known { Known W.Value.Semiring.ring self.now.span slots.old sums.now }
-        ensures added { slots.new ≡ fold (columns.with_rule W.Value.Semiring.ring (by (W.weight self.now.weighing.now)) self.now.span.cells self.now.last.bits self.now.span.begin self.now.span.end) slots.old self.now.gathered.now.rules.items }
-        ensures known { Known W.Value.Semiring.ring self.now.span slots.new sums.now }
+    fn add_rules(&self, slots: &mut [W::Value], sums: &mut [Sum<W::Value>])
+        requires known { Known W.Value.Semiring.ring self.now.span slots.old sums.old }
+        ensures added { slots.new ≡ fold (columns.with_rule W.Value.Semiring.ring (by (W.weight self.now.weighing.now)) self.now.span.cells self.now.last.bits self.now.span.begin self.now.span.end) slots.old self.now.rules.now }
+        ensures known { Known W.Value.Semiring.ring self.now.span slots.new sums.new }
     {
-        for rule in self.gathered.rules.as_slice() {
+        for rule in self.rules {
             self.add_rule(slots, sums, rule);
         }
     }
 
     // Adds the share of one rule number, if it has a rule.
-    fn add_number(&self, slots: &mut [W::Value], sums: &[Sum<W::Value>], number: u32)
-        requires known { Known W.Value.Semiring.ring self.now.span slots.old sums.now }
+    fn add_number(&self, slots: &mut [W::Value], sums: &mut [Sum<W::Value>], number: u32)
+        requires known { Known W.Value.Semiring.ring self.now.span slots.old sums.old }
         ensures added { slots.new ≡ columns.with_any W.Value.Semiring.ring (by (W.weight self.now.weighing.now)) self.now.span.cells self.now.last.bits self.now.span.begin self.now.span.end slots.old ((G.meaning self.now.grammar.now).rule number) }
-        ensures known { Known W.Value.Semiring.ring self.now.span slots.new sums.now }
+        ensures known { Known W.Value.Semiring.ring self.now.span slots.new sums.new }
     {
         if let Some(rule) = self.grammar.rule(number) {
             self.add_rule(slots, sums, &rule);
@@ -99,25 +100,23 @@ impl<'a, G: Grammar, W: Weighing> Filling<'a, G, W> {
     }
 
     // Goes on with the rules that are not at hand.
-    fn add_numbers(&self, slots: &mut [W::Value], sums: &[Sum<W::Value>])
-        requires known { Known W.Value.Semiring.ring self.now.span slots.old sums.now }
-        ensures { (xs : List (W.Value)) → columns.Row W.Value.Semiring.ring (by (W.weight self.now.weighing.now)) (G.meaning self.now.grammar.now) self.now.last.bits self.now.span.begin self.now.span.end self.now.gathered.now.next xs slots.old → columns.Row W.Value.Semiring.ring (by (W.weight self.now.weighing.now)) (G.meaning self.now.grammar.now) self.now.last.bits self.now.span.begin self.now.span.end (G.meaning self.now.grammar.now).bound xs slots.new }
+    fn add_numbers(&self, slots: &mut [W::Value], sums: &mut [Sum<W::Value>])
+        requires known { Known W.Value.Semiring.ring self.now.span slots.old sums.old }
+        ensures rows { (xs : List (W.Value)) → columns.Row W.Value.Semiring.ring (by (W.weight self.now.weighing.now)) (G.meaning self.now.grammar.now) self.now.last.bits self.now.span.begin self.now.span.end self.now.next xs slots.old → columns.Row W.Value.Semiring.ring (by (W.weight self.now.weighing.now)) (G.meaning self.now.grammar.now) self.now.last.bits self.now.span.begin self.now.span.end (G.meaning self.now.grammar.now).bound xs slots.new }
+        ensures known { Known W.Value.Semiring.ring self.now.span slots.new sums.new }
     {
-        for number in self.gathered.next..self.grammar.bound() {
+        for number in self.next..self.bound {
             self.add_number(slots, sums, number);
         }
     }
 
-    // Adds to each cell of the span the shares of all rules: of those at hand, and then of the others.
+    // Adds to each cell of the span the shares of all rules: of those at hand, and then of the others. The sums are of spans that begin later.
     pub(crate) fn fill_row(&self, slots: &mut [W::Value], sums: &mut [Sum<W::Value>])
         requires room { cells.Room self.now.span.cells self.now.span.end (length slots.old) }
-        ensures { columns.Row W.Value.Semiring.ring (by (W.weight self.now.weighing.now)) (G.meaning self.now.grammar.now) self.now.last.bits self.now.span.begin self.now.span.end (G.meaning self.now.grammar.now).bound slots.old slots.new }
+        requires later { Later (self.now.span.begin + 1) sums.old }
+        ensures row { columns.Row W.Value.Semiring.ring (by (W.weight self.now.weighing.now)) (G.meaning self.now.grammar.now) self.now.last.bits self.now.span.begin self.now.span.end (G.meaning self.now.grammar.now).bound slots.old slots.new }
+        ensures later { Later self.now.span.begin sums.new }
     {
-        Cells {
-            slots,
-            span: self.span,
-        }
-        .sum_pairs(sums);
         self.add_rules(slots, sums);
         self.add_numbers(slots, sums);
     }

@@ -22,6 +22,29 @@ impl Span {
         (self.end * (self.end - 1) / 2 + self.begin) * self.cells + a
     }
 
+    // The first entry of the span.
+    pub(crate) fn front(self) -> Span
+        ensures { (result.begin ≡ self.begin) × (result.end ≡ self.begin + 1) × (result.cells ≡ self.cells) }
+    {
+        Span {
+            begin: self.begin,
+            end: self.begin + 1,
+            cells: self.cells,
+        }
+    }
+
+    // All of its entries but the first, of which it has several.
+    pub(crate) fn back(self) -> Span
+        requires { self.begin + 1 < self.end }
+        ensures { (result.begin ≡ self.begin + 1) × (result.end ≡ self.end) × (result.cells ≡ self.cells) }
+    {
+        Span {
+            begin: self.begin + 1,
+            end: self.end,
+            cells: self.cells,
+        }
+    }
+
     // Whether it is one entry.
     pub(crate) fn is_single(self) -> bool
         ensures { result ≡ (self.begin + 1 == self.end) }

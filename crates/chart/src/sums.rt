@@ -1,11 +1,10 @@
 // Sums over cuts that are worked out once for a span: the rules to the same pair share one.
-ghost use Rattle.std.specs.Prelude.{◌≡◌, ◌<◌, ◌≤◌, length};
+ghost use Rattle.std.specs.Prelude.{◌≡◌, ◌<◌, IfSome};
 ghost use Rattle.chart.specs.Cells as cells;
 ghost use Rattle.chart.specs.Sums.{Known, KnownAt};
 
 use super::cells::Cells;
 use super::span::Span;
-use grammar::rule::{Expansion, Rule};
 use semiring::semiring::Semiring;
 
 // The pair of nonterminals of which a sum is.
@@ -16,45 +15,22 @@ pub(crate) struct Key {
 }
 
 impl Key {
-    // Its place among the sums.
-    fn place(self) -> usize
-        ensures { result < 64 }
+    // Its place among so many sums. Where their number is a power of two each place may come.
+    #[tactic(auto, using(std::proofs::lemmas::Nat::and_le_r))]
+    fn place(self, places: usize) -> usize
+        requires { 0 < places }
+        ensures { result < places }
     {
-        (self.left.wrapping_mul(8).wrapping_add(self.right) % 64) as usize
+        self.left.wrapping_mul(8).wrapping_add(self.right) as usize & (places - 1)
     }
 }
 
-// The sum of a key. The places are looked up by what `Key::place` says and not by a map, since nothing is allocated.
+// The sum of a key at the span that begins there and ends where the column does. The places are looked up by what `Key::place` says and not by a map, since nothing is allocated.
 #[derive(Clone, Copy)]
 pub(crate) struct Sum<S> {
     pub(crate) key: Key,
+    pub(crate) begin: usize,
     pub(crate) value: S,
-}
-
-// Notes the pair of a rule at its place, and answers how many places there are up to it.
-fn note_pair<S: Copy>(sums: &mut [Sum<S>], rule: &Rule) -> usize
-    ensures { result ≤ length sums.old }
-{
-    if let Expansion::Pair { left, right } = rule.expansion {
-        let key = Key { left, right };
-        let at = key.place();
-        if let Some(sum) = sums.get_mut(at) {
-            sum.key = key;
-            return at + 1;
-        }
-    }
-    0
-}
-
-// Notes the pairs of rules, the last one at each place, and answers how many places are in use. Any keys would do: they decide which sums are shared.
-pub(crate) fn note_pairs<S: Copy>(sums: &mut [Sum<S>], rules: &[Rule]) -> usize
-    ensures { result ≤ length sums.old }
-{
-    let mut used = 0;
-    for rule in rules {
-        used = used.max(note_pair(sums, rule));
-    }
-    used
 }
 
 // The sum with a cut more: the left part times the right part.
@@ -65,54 +41,68 @@ fn with_cut<S: Semiring>(sum: S, left: S, right: S) -> S
 }
 
 impl<'a, S: Semiring> Cells<'a, S> {
-    // The sum over the cuts of the span of the left cell times the right cell.
+    // The sum over the cuts of the span of the left cell times the right cell, with running slots of the two. One entry has no cut.
     fn cut_sum(&self, left: usize, right: usize) -> S
         requires { (left < self.now.span.cells) × (right < self.now.span.cells) }
         ensures { result ≡ cells.cut_sum S.ring (cells.cell_at S.ring self.now.span.cells self.now.slots.now) self.now.span.begin self.now.span.end left right }
     {
-        let Span { begin, end, .. } = self.span;
+        let Span { begin, end, cells } = self.span;
         let mut sum = S::zero();
+        if self.span.is_single() {
+            return sum;
+        }
+        let mut l = self.span.front().slot(left);
+        let mut r = self.span.back().slot(right);
         for cut in begin + 1..end {
-            sum = with_cut(
-                sum,
-                self.inner(begin, cut, left),
-                self.inner(cut, end, right),
-            );
+            sum = with_cut(sum, self.slots[l], self.slots[r]);
+            l += cut * cells;
+            r += cells;
         }
         sum
     }
 
-    // The sum of a key; zero where the key names no two nonterminals.
-    fn pair_sum(&self, key: Key) -> S
-        ensures { KnownAt S.ring self.now.span self.now.slots.now key result }
-    {
-        let left = key.left as usize;
-        let right = key.right as usize;
-        if left < self.span.cells && right < self.span.cells {
-            self.cut_sum(left, right)
-        } else {
-            S::zero()
-        }
-    }
-
-    // Works out the sum of each key.
-    pub(crate) fn sum_pairs(&self, sums: &mut [Sum<S>])
-        ensures { Known S.ring self.now.span self.now.slots.now sums.new }
-    {
-        for sum in sums.iter_mut() {
-            sum.value = self.pair_sum(sum.key);
-        }
-    }
-
-    // The sum over the cuts of the span: the one at the pair's place, if that is of this pair, or else it is worked out.
-    pub(crate) fn known_sum(&self, sums: &[Sum<S>], key: Key) -> S
+    // The sum of a key, if it is noted at the key's place.
+    fn found_sum(&self, sums: &[Sum<S>], key: Key) -> Option<S>
         requires names { (key.left < self.now.span.cells) × (key.right < self.now.span.cells) }
         requires known { Known S.ring self.now.span self.now.slots.now sums.now }
-        ensures { result ≡ cells.cut_sum S.ring (cells.cell_at S.ring self.now.span.cells self.now.slots.now) self.now.span.begin self.now.span.end key.left key.right }
+        ensures { IfSome result (KnownAt S.ring self.now.span self.now.slots.now key) }
     {
-        match sums.get(key.place()) {
-            Some(sum) if sum.key == key => sum.value,
-            _ => self.cut_sum(key.left as usize, key.right as usize),
+        if sums.is_empty() {
+            return None;
         }
+        let sum = sums[key.place(sums.len())];
+        if sum.key == key && sum.begin == self.span.begin {
+            Some(sum.value)
+        } else {
+            None
+        }
+    }
+
+    // Notes the sum of a key at the key's place, if there is one.
+    fn note_sum(&self, sums: &mut [Sum<S>], key: Key, value: S)
+        requires known { Known S.ring self.now.span self.now.slots.now sums.old }
+        requires right { KnownAt S.ring self.now.span self.now.slots.now key value }
+        ensures { Known S.ring self.now.span self.now.slots.now sums.new }
+    {
+        if !sums.is_empty() {
+            let at = key.place(sums.len());
+            let begin = self.span.begin;
+            sums[at] = Sum { key, begin, value };
+        }
+    }
+
+    // The sum over the cuts of the span: the one that is noted for this pair and span, or else it is worked out, and noted.
+    pub(crate) fn known_sum(&self, sums: &mut [Sum<S>], key: Key) -> S
+        requires names { (key.left < self.now.span.cells) × (key.right < self.now.span.cells) }
+        requires known { Known S.ring self.now.span self.now.slots.now sums.old }
+        ensures is { result ≡ cells.cut_sum S.ring (cells.cell_at S.ring self.now.span.cells self.now.slots.now) self.now.span.begin self.now.span.end key.left key.right }
+        ensures known { Known S.ring self.now.span self.now.slots.now sums.new }
+    {
+        if let Some(sum) = self.found_sum(sums, key) {
+            return sum;
+        }
+        let sum = self.cut_sum(key.left as usize, key.right as usize);
+        self.note_sum(sums, key, sum);
+        sum
     }
 }

@@ -138,7 +138,7 @@ fn token_after_clear(rt: HostRuntime) -> Result<(), Fail> {
         Ok(trial) => {
             chart.clear();
             assert_eq!(rt; chart.keep(trial), Err(Refusal::NoTrial));
-            assert_eq!(rt; chart.entries().len(), 0);
+            assert_eq!(rt; chart.len(), 0);
             Ok(())
         }
         Err(_) => Err(Fail::new("refused")),

@@ -16,7 +16,7 @@ use Rattle.grammar.specs.Costs.{cost_of}
 use Rattle.grammar.proofs.Truths.{true_of, not_both}
 use Rattle.grammar.proofs.Cheapest.{total_least, below_none}
 use Rattle.grammar.proofs.Spanning.{stands_filled}
-use Rattle.entries.specs.declared.list.Entries.{Entries}
+use Rattle.entries.specs.Lists.{Entries}
 use Rattle.chart.specs.Cells.{cell_at}
 use Rattle.entries.specs.Model.{state}
 use Rattle.chart.specs.Stands.{ChartStands}

@@ -9,7 +9,7 @@ use Rattle.grammar.specs.Grammars.{Meaning}
 use Rattle.grammar.specs.Derivations.{Tree, leaf, node, leaves, EntriesFromStarts}
 use Rattle.grammar.specs.Totals.{by}
 use Rattle.grammar.specs.Costs.{cost_of}
-use Rattle.entries.specs.declared.list.Entries.{Entries}
+use Rattle.entries.specs.Lists.{Entries}
 use Rattle.chart.specs.Cells.{cell_at}
 use Rattle.entries.specs.Model.{state}
 use Rattle.chart.specs.Stands.{ChartStands}

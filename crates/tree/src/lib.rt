@@ -40,7 +40,7 @@ pub fn tree<G: Grammar, W: Weighing<Value = Cost>>(
     ensures every { ChartStands cost (W.weight weighing.now) (G.meaning grammar.now) chart.now.entries chart.now.slots.cells.now → ChartEvery (W.weight weighing.now) (G.meaning grammar.now) chart.now.entries chart.now.slots.cells.now }
 {
     let total = chart.total(grammar)?;
-    let count = chart.entries().len();
+    let count = chart.len();
     let nodes = node_count(total, count, records.len())?;
     let reading = Reading {
         chart,

@@ -24,6 +24,6 @@ impl<G: Grammar, W> Reading<'_, '_, G, W> {
         requires { place < (length self.now.chart.now.entries.list.items) }
         ensures { result.bits ≡ slice_index (entries_of self.now.chart.now) place }
     {
-        self.chart.entries().entry(place).unwrap()
+        self.chart.entry(place).unwrap()
     }
 }

@@ -12,6 +12,9 @@ loop-begin-preserved g c =
     let m = g.G.Grammar.meaning f.grammar.now in
     let w = by (g.W.Weighing.weight f.weighing.now) in
     let back : l.begin ≡ l.begin - 1 + 1 = omega arith in
-    column_more g.met.W.Value.Semiring.laws w m f.last.bits c.args.self.now.upto f.span.end (g.G.Grammar.shown f.grammar.now) (l.begin - 1) (omega arith)
-    l.slots c.fill_row.new.slots c.fill_row.ensures xs
-    (subst (λ b. Column g.W.Value.Semiring.ring w m f.last.bits b c.args.self.now.upto f.span.end xs l.slots) back l.invariant)
+    record {
+      column = column_more g.met.W.Value.Semiring.laws w m f.last.bits c.args.self.now.upto f.span.end (g.G.Grammar.shown f.grammar.now) (l.begin - 1) (omega arith)
+          l.slots c.fill_row.new.slots c.fill_row.ensures.row xs
+          (subst (λ b. Column g.W.Value.Semiring.ring w m f.last.bits b c.args.self.now.upto f.span.end xs l.slots) back l.invariant.column);
+      later = c.fill_row.ensures.later;
+    }

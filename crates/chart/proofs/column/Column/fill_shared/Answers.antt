@@ -9,4 +9,4 @@ use Rattle.chart.proofs.column.Column.fill_shared.Goals as goal
 pub whole_as_slice-fill_with : goal.whole_as_slice-fill_with
 whole_as_slice-fill_with g c =
     let fits : length c.args.slots.now * size (lone g.row.W-Value.mir) < 9223372036854775808 = search rules in
-    sums_fit (lone g.row.W-Value.mir) (layout g.row.W-Value) (length c.args.slots.now) c.requires.many fits
+    sums_fit (lone g.row.W-Value.mir) (layout g.row.W-Value) g.row.N (length c.args.slots.now) c.requires.few c.requires.many fits

@@ -10,6 +10,6 @@ invariant-loop-number g l =
     let s = f.span in
     let ring = g.W.Value.Semiring.ring in
     let row = Row ring (by (g.W.Weighing.weight f.weighing.now)) (g.G.Grammar.meaning f.grammar.now) f.last.bits s.begin s.end in record {
-      rows : (xs : List g.row.W-Value.Denot) → row f.gathered.now.next xs l.initial.slots → row l.number xs l.slots;
+      rows : (xs : List g.row.W-Value.Denot) → row f.next xs l.initial.slots → row l.number xs l.slots;
       known : Known ring s l.slots l.sums;
     }

@@ -9,6 +9,6 @@ invariant-loop-rule g l =
     let f = l.self in
     let s = f.span in
     let ring = g.W.Value.Semiring.ring in record {
-      added : l.slots ≡ fold (with_rule ring (by (g.W.Weighing.weight f.weighing.now)) s.cells f.last.bits s.begin s.end) l.initial.slots (take l.rule-index f.gathered.now.rules.items);
+      added : l.slots ≡ fold (with_rule ring (by (g.W.Weighing.weight f.weighing.now)) s.cells f.last.bits s.begin s.end) l.initial.slots (take l.rule-index f.rules.now);
       known : Known ring s l.slots l.sums;
     }

@@ -8,8 +8,8 @@ use Rattle.chart.proofs.Rows.{times-sum}
 use Rattle.chart.proofs.filling.Filling.share.Goals as goal
 
 -- one entry has no cut
-pub returns-then-is_single : goal.returns-then-is_single
-returns-then-is_single g c =
+pub returns-then-is_single-clause-share : goal.returns-then-is_single-clause-share
+returns-then-is_single-clause-share g c =
     let f = c.args.self.now in
     let s = f.span in
     let ring = g.W.Value.Semiring.ring in
@@ -20,8 +20,8 @@ returns-then-is_single g c =
     ap (share ring cell weight f.last.bits s.begin s.end) c.in-Pair.is ∙ ap (λ k. sum_below ring k term) none ∙ sum_none ring term
 
 -- the weight times the sum over the cuts
-pub returns-else-is_single : goal.returns-else-is_single
-returns-else-is_single g c =
+pub returns-else-is_single-clause-share : goal.returns-else-is_single-clause-share
+returns-else-is_single-clause-share g c =
     let f = c.args.self.now in
     let s = f.span in
     let ring = g.W.Value.Semiring.ring in

@@ -2,7 +2,7 @@ use Rattle.std.proofs.Common.{◌+◌}
 use Rattle.grammar.specs.Totals.{by}
 use Rattle.entries.specs.Model.{state}
 use Rattle.chart.specs.Columns.{Refilled}
-use Rattle.chart.proofs.slots.Slots.refill.Given as goal
+use Rattle.chart.proofs.slots.Slots.refill_with.Given as goal
 
 abbrev pub invariant-loop-i : goal.invariant-loop-i
 invariant-loop-i g l =

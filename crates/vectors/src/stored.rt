@@ -6,6 +6,7 @@ use crate::hex::bytes;
 use crate::misread::Misread;
 use job::responding::respond;
 use std::alloc::{AllocError, Global};
+use std::iter;
 
 // A job, and the text of the stored answer.
 #[derive(Drop)]
@@ -49,13 +50,12 @@ fn unbar(byte: u8) -> u8
 fn lines(heap: Global, barred: &str) -> Result<Vec<u8>, AllocError>
     ensures { IfOk result (λ bytes. bytes.items ≡ unbarred barred.now) }
 {
-    let mut text: Vec<u8> = barred
+    barred
         .as_bytes()
         .iter()
         .map(|byte| unbar(*byte))
-        .collect(heap)?;
-    text.push(b'\n')?;
-    Ok(text)
+        .chain(iter::once(b'\n'))
+        .collect(heap)
 }
 
 // The stored jobs of a text, one to a line.

@@ -5,9 +5,10 @@
 use answer::report::Totals;
 use chart::chart::Chart;
 use entries::call::Call;
+use grammar::grammar::Grammar;
 use grammar::refusal::Refusal;
 use grammar::rule::{Expansion, Rule};
-use grammar::weighing::UnitWeighing;
+use grammar::weighing::{CostWeighing, UnitWeighing, Weighing};
 use runs::replay::{Replayed, replay};
 use semiring::cost::Cost;
 use semiring::count::Count;
@@ -29,22 +30,23 @@ fn rules(rows: &mut [Rule]) -> Result<Table<'_>, Refusal> {
     Ok(draft.seal())
 }
 
-// Whether the entries can be read, in how many ways, and at what least cost. A job asks in the same way, of slots and rules of its own.
-fn read_entries() -> Result<Totals, Refusal> {
-    let mut rows = [Rule::BLANK; 3];
-    let grammar = rules(&mut rows)?;
-    let mut slots = [Count::zero(); 3];
-    let mut chart = Chart::new(&mut slots, &grammar);
+// The total of the entries by a weighing. A job asks in the same way, of slots and rules of its own.
+fn total<S: Semiring, G: Grammar, W: Weighing<Value = S>>(
+    slots: &mut [S],
+    grammar: &G,
+    weighing: &W,
+) -> Result<S, Refusal> {
+    let mut chart = Chart::new(slots, grammar);
     let Replayed {
         total,
-        cost,
+        cost: _,
         tree: _,
         trial,
     } = replay(
         &mut chart,
         &mut [Cost::zero(); 3],
-        &grammar,
-        &UnitWeighing::new(),
+        grammar,
+        weighing,
         &CALLS,
         &mut [],
         &mut [],
@@ -52,12 +54,17 @@ fn read_entries() -> Result<Totals, Refusal> {
     if let Some(trial) = trial {
         chart.keep(trial)?;
     }
+    total
+}
+
+// Whether the entries can be read, in how many ways, and at what least cost: the totals of three charts.
+fn read_entries() -> Result<Totals, Refusal> {
+    let mut rows = [Rule::BLANK; 3];
+    let grammar = rules(&mut rows)?;
     Ok(Totals {
-        read: YesNo {
-            value: !cost.is_none(),
-        },
-        count: total?,
-        cost,
+        read: total(&mut [YesNo::zero(); 3], &grammar, &UnitWeighing::new())?,
+        count: total(&mut [Count::zero(); 3], &grammar, &UnitWeighing::new())?,
+        cost: total(&mut [Cost::zero(); 3], &grammar, &CostWeighing {})?,
     })
 }
 

@@ -5,7 +5,7 @@ use Rattle.grammar.specs.Grammars.{Meaning}
 use Rattle.grammar.specs.declared.refusal.Refusal.{Refusal}
 use Rattle.entries.specs.declared.call.Call.{Call}
 use Rattle.entries.specs.declared.call.Call.TheVariants.{Clear, TakeBack, Keep, Withdraw}
-use Rattle.entries.specs.declared.list.Entries.{Entries}
+use Rattle.entries.specs.Lists.{Entries}
 use Rattle.entries.specs.Model.{Terms, State, state, answer, after, step, Did}
 use Rattle.chart.specs.declared.chart.Chart.{Chart}
 use Rattle.chart.specs.Stands.{ChartStands}

@@ -5,7 +5,7 @@ use Rattle.semiring.specs.Costs.{cost, none}
 use Rattle.grammar.specs.declared.refusal.Refusal.{Refusal}
 use Rattle.grammar.specs.declared.refusal.Refusal.TheVariants.{NoDerivation, FewRecords, OtherGrammar}
 use Rattle.grammar.specs.Grammars.{Meaning}
-use Rattle.entries.specs.declared.list.Entries.{Entries}
+use Rattle.entries.specs.Lists.{Entries}
 use Rattle.entries.specs.Model.{state}
 use Rattle.chart.specs.Reads.{whole_total}
 use Rattle.entries.proofs.Listing.{size}

@@ -25,7 +25,7 @@ pub struct Report {
     ghost few: { length nodes.items ≤ 127 },
 }
 
-// A clause sees the fields as they are. A struct that holds a list is copied where it is passed by value only if it has a view of its own.
+// A clause sees the fields as they are. Without a view of its own the check finds no proof where a struct that holds a list is passed by value and used again, though it is `Copy`.
 impl Model for Report {
     ghost use Rattle.std.specs.Prelude.{refl};
     ghost use Rattle.answer.specs.Seen.{Report as Seen};

@@ -87,7 +87,7 @@ impl<'a, G: Grammar, W: Weighing> Column<'a, G, W> {
         self.fill_with(slots, &mut sums);
     }
 
-    // Fills its spans. A chart of few slots goes without shared sums, and so does one of wide values, of which 64 would take much memory; one rule shares with no other.
+    // Fills its spans. With fewer than two rules at hand there are no shared sums, nor in a chart of few slots, nor in one of wide values, of which 64 would take much memory. The size is written as a product, since the check knows it in no other form.
     pub(crate) fn fill(&self, slots: &mut [W::Value])
         requires room { cells.Room self.now.widest.span.cells self.now.widest.span.end (length slots.old) }
         ensures { columns.Column W.Value.Semiring.ring (by (W.weight self.now.widest.weighing.now)) (G.meaning self.now.widest.grammar.now) self.now.widest.last.bits 0 self.now.upto self.now.widest.span.end slots.old slots.new }

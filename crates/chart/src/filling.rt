@@ -16,7 +16,7 @@ pub(crate) struct Filling<'a, G: Grammar, W: Weighing> {
     // the rules of the numbers below `next`, in order
     pub(crate) rules: &'a [Rule],
     pub(crate) next: u32,
-    // the grammar's bound, asked for once
+    // the grammar's bound, asked for before the first span
     pub(crate) bound: u32,
     pub(crate) span: Span,
     pub(crate) last: Entry,

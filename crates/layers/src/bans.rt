@@ -12,7 +12,7 @@ pub struct Bans {
     ghost few: { length numbers.items ≤ 16 },
 }
 
-// A clause sees the fields as they are. A struct that holds a list is copied where it is passed by value only if it has a view of its own.
+// A clause sees the fields as they are. Without a view of its own the check finds no proof where a struct that holds a list is passed by value and used again, though it is `Copy`.
 impl Model for Bans {
     ghost use Rattle.std.specs.Prelude.{refl};
     ghost use Rattle.layers.specs.Listing.{Bans as Seen};

@@ -2,6 +2,7 @@ pub mod Places
 pub mod Wiped
 pub mod Rows
 pub mod Gathering
+pub mod Noting
 pub mod Summing
 pub mod ColumnSteps
 pub mod Standing

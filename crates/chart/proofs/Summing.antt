@@ -1,13 +1,14 @@
 -- Known sums stay right while the span is filled. Assumes nothing.
-use Rattle.std.proofs.Common.{ℕ, ◌+◌, ◌<◌, List, length, sym, ◌∙◌, subst, arith}
+use Rattle.std.proofs.Common.{ℕ, ◌+◌, ◌<◌, ◌==◌, List, length, sym, ◌∙◌, subst, arith, eqb-true}
 use Rattle.std.proofs.lemmas.List.{length-set, get_or-set_other}
 use Rattle.semiring.specs.Semirings.{Operations, Laws}
 use Rattle.chart.specs.Cells.{place, cell_at, added, Room}
-use Rattle.chart.specs.Sums.{Later, Known}
+use Rattle.chart.specs.Sums.{Later, KnownAt, Known, Noted}
 use Rattle.chart.specs.declared.span.Span.{Span}
 use Rattle.chart.specs.declared.sums.Sum.{Sum}
 use Rattle.chart.proofs.Places.{place_narrow, place_later}
 use Rattle.chart.proofs.Rows.{Agree, cut_sum_same}
+use Rattle.chart.proofs.Noting.{all_kept}
 
 module _ {S : Type 0} {ops : Operations S} (laws : Laws ops) where
   module _ (span : Span) where
@@ -23,18 +24,24 @@ module _ {S : Type 0} {ops : Operations S} (laws : Laws ops) where
         )
 
     -- where all sums are of spans that begin later, none is of this one yet
-    pub known_later : (xs : List S) (sums : List (Sum S)) → Room n span.end (length xs) → Later (span.begin + 1) sums → Known ops span xs sums
-    known_later xs sums room later = record {
-      room = room;
+    pub noted_later : (xs : List S) (sums : List (Sum S)) → Room n span.end (length xs) → Later (span.begin + 1) sums → Noted ops span xs sums
+    noted_later xs sums room later = record {
       later = λ i d h. omega (arith, later i d h);
-      each = λ i d h here. absurd (omega (arith, here, later i d h));
+      here = record {
+        room = room;
+        each = all_kept (λ sum. KnownAt ops span xs sum.key sum.value) (λ sum. sum.begin == span.begin) sums
+            (λ i d h here. absurd (omega (arith, eqb-true _ _ here, later i d h)));
+      };
     }
 
     pub known_added : (a : ℕ) (v : S) (xs : List S) (sums : List (Sum S)) → a < n
         → Known ops span xs sums → Known ops span (added ops n xs span.begin span.end a v) sums
     known_added a v xs sums ha known = record {
       room = subst (Room n span.end) (sym (length-set xs _ _)) known.room;
-      later = known.later;
-      each = λ i d h here left right. known.each i d h here left right
+      each = λ i d h left right. known.each i d h left right
           ∙ cut_sum_same laws n (cell_at ops n xs) (cell_at ops n (added ops n xs span.begin span.end a v)) span.begin span.end _ _ left right (agree_added xs a v ha);
     }
+
+    pub noted_added : (a : ℕ) (v : S) (xs : List S) (sums : List (Sum S)) → a < n
+        → Noted ops span xs sums → Noted ops span (added ops n xs span.begin span.end a v) sums
+    noted_added a v xs sums ha noted = record { later = noted.later; here = known_added a v xs _ ha noted.here }

@@ -6,7 +6,7 @@ ghost use Rattle.grammar.specs.Totals.{by};
 ghost use Rattle.chart.specs.Cells as cells;
 ghost use Rattle.chart.specs.Columns as columns;
 ghost use Rattle.chart.specs.Gathers.{Named};
-ghost use Rattle.chart.specs.Sums.{Known, Later};
+ghost use Rattle.chart.specs.Sums.{Noted, Later};
 
 use super::cells::Cells;
 use super::filling::Filling;
@@ -38,10 +38,10 @@ impl<'a, G: Grammar, W: Weighing> Filling<'a, G, W> {
     // What a rule adds to its cell: a pair rule, at a span of several entries, its weight times the sum over the cuts; a leaf rule its weight, at one entry that has its code.
     fn share(&self, slots: &[W::Value], sums: &mut [Sum<W::Value>], rule: &Rule) -> Option<W::Value>
         requires named { Named self.now.span.cells rule.now }
-        requires known { Known W.Value.Semiring.ring self.now.span slots.now sums.old }
+        requires known { Noted W.Value.Semiring.ring self.now.span slots.now sums.old }
         ensures share { let share = spans.share W.Value.Semiring.ring (cells.cell_at W.Value.Semiring.ring self.now.span.cells slots.now) (by (W.weight self.now.weighing.now) rule.now) self.now.last.bits self.now.span.begin self.now.span.end rule.now.expansion in
             MatchOption result (share ≡ W.Value.Semiring.ring.zero) (λ v. v ≡ share) }
-        ensures known { Known W.Value.Semiring.ring self.now.span slots.now sums.new }
+        ensures known { Noted W.Value.Semiring.ring self.now.span slots.now sums.new }
     {
         match rule.expansion {
             Expansion::Pair { left, right } => {
@@ -68,9 +68,9 @@ impl<'a, G: Grammar, W: Weighing> Filling<'a, G, W> {
     // Adds a rule's share to its cell.
     fn add_rule(&self, slots: &mut [W::Value], sums: &mut [Sum<W::Value>], rule: &Rule)
         requires named { Named self.now.span.cells rule.now }
-        requires known { Known W.Value.Semiring.ring self.now.span slots.old sums.old }
+        requires known { Noted W.Value.Semiring.ring self.now.span slots.old sums.old }
         ensures added { slots.new ≡ columns.with_rule W.Value.Semiring.ring (by (W.weight self.now.weighing.now)) self.now.span.cells self.now.last.bits self.now.span.begin self.now.span.end slots.old rule.now }
-        ensures known { Known W.Value.Semiring.ring self.now.span slots.new sums.new }
+        ensures known { Noted W.Value.Semiring.ring self.now.span slots.new sums.new }
     {
         if let Some(share) = self.share(slots, sums, rule) {
             add_to_cell(slots, self.span, rule.lhs as usize, share);
@@ -79,9 +79,9 @@ impl<'a, G: Grammar, W: Weighing> Filling<'a, G, W> {
 
     // Adds the shares of the rules at hand, one after the other.
     fn add_rules(&self, slots: &mut [W::Value], sums: &mut [Sum<W::Value>])
-        requires known { Known W.Value.Semiring.ring self.now.span slots.old sums.old }
+        requires known { Noted W.Value.Semiring.ring self.now.span slots.old sums.old }
         ensures added { slots.new ≡ fold (columns.with_rule W.Value.Semiring.ring (by (W.weight self.now.weighing.now)) self.now.span.cells self.now.last.bits self.now.span.begin self.now.span.end) slots.old self.now.rules.now }
-        ensures known { Known W.Value.Semiring.ring self.now.span slots.new sums.new }
+        ensures known { Noted W.Value.Semiring.ring self.now.span slots.new sums.new }
     {
         for rule in self.rules {
             self.add_rule(slots, sums, rule);
@@ -90,9 +90,9 @@ impl<'a, G: Grammar, W: Weighing> Filling<'a, G, W> {
 
     // Adds the share of one rule number, if it has a rule.
     fn add_number(&self, slots: &mut [W::Value], sums: &mut [Sum<W::Value>], number: u32)
-        requires known { Known W.Value.Semiring.ring self.now.span slots.old sums.old }
+        requires known { Noted W.Value.Semiring.ring self.now.span slots.old sums.old }
         ensures added { slots.new ≡ columns.with_any W.Value.Semiring.ring (by (W.weight self.now.weighing.now)) self.now.span.cells self.now.last.bits self.now.span.begin self.now.span.end slots.old ((G.meaning self.now.grammar.now).rule number) }
-        ensures known { Known W.Value.Semiring.ring self.now.span slots.new sums.new }
+        ensures known { Noted W.Value.Semiring.ring self.now.span slots.new sums.new }
     {
         if let Some(rule) = self.grammar.rule(number) {
             self.add_rule(slots, sums, &rule);
@@ -101,9 +101,9 @@ impl<'a, G: Grammar, W: Weighing> Filling<'a, G, W> {
 
     // Goes on with the rules that are not at hand.
     fn add_numbers(&self, slots: &mut [W::Value], sums: &mut [Sum<W::Value>])
-        requires known { Known W.Value.Semiring.ring self.now.span slots.old sums.old }
+        requires known { Noted W.Value.Semiring.ring self.now.span slots.old sums.old }
         ensures rows { (xs : List (W.Value)) → columns.Row W.Value.Semiring.ring (by (W.weight self.now.weighing.now)) (G.meaning self.now.grammar.now) self.now.last.bits self.now.span.begin self.now.span.end self.now.next xs slots.old → columns.Row W.Value.Semiring.ring (by (W.weight self.now.weighing.now)) (G.meaning self.now.grammar.now) self.now.last.bits self.now.span.begin self.now.span.end (G.meaning self.now.grammar.now).bound xs slots.new }
-        ensures known { Known W.Value.Semiring.ring self.now.span slots.new sums.new }
+        ensures known { Noted W.Value.Semiring.ring self.now.span slots.new sums.new }
     {
         for number in self.next..self.bound {
             self.add_number(slots, sums, number);

@@ -1,7 +1,7 @@
 // Sums over cuts that are worked out once for a span: the rules to the same pair share one.
 ghost use Rattle.std.specs.Prelude.{◌≡◌, ◌<◌, IfSome};
 ghost use Rattle.chart.specs.Cells as cells;
-ghost use Rattle.chart.specs.Sums.{Known, KnownAt};
+ghost use Rattle.chart.specs.Sums.{KnownAt, Noted};
 
 use super::cells::Cells;
 use super::span::Span;
@@ -62,9 +62,10 @@ impl<'a, S: Semiring> Cells<'a, S> {
     }
 
     // The sum of a key, if it is noted at the key's place.
+    #[tactic(auto, using(crate::proofs::Noting::noted_each))]
     fn found_sum(&self, sums: &[Sum<S>], key: Key) -> Option<S>
         requires names { (key.left < self.now.span.cells) × (key.right < self.now.span.cells) }
-        requires known { Known S.ring self.now.span self.now.slots.now sums.now }
+        requires known { Noted S.ring self.now.span self.now.slots.now sums.now }
         ensures { IfSome result (KnownAt S.ring self.now.span self.now.slots.now key) }
     {
         if sums.is_empty() {
@@ -80,9 +81,9 @@ impl<'a, S: Semiring> Cells<'a, S> {
 
     // Notes the sum of a key at the key's place, if there is one.
     fn note_sum(&self, sums: &mut [Sum<S>], key: Key, value: S)
-        requires known { Known S.ring self.now.span self.now.slots.now sums.old }
+        requires known { Noted S.ring self.now.span self.now.slots.now sums.old }
         requires right { KnownAt S.ring self.now.span self.now.slots.now key value }
-        ensures { Known S.ring self.now.span self.now.slots.now sums.new }
+        ensures { Noted S.ring self.now.span self.now.slots.now sums.new }
     {
         if !sums.is_empty() {
             let at = key.place(sums.len());
@@ -94,9 +95,9 @@ impl<'a, S: Semiring> Cells<'a, S> {
     // The sum over the cuts of the span: the one that is noted for this pair and span, or else it is worked out, and noted.
     pub(crate) fn known_sum(&self, sums: &mut [Sum<S>], key: Key) -> S
         requires names { (key.left < self.now.span.cells) × (key.right < self.now.span.cells) }
-        requires known { Known S.ring self.now.span self.now.slots.now sums.old }
+        requires known { Noted S.ring self.now.span self.now.slots.now sums.old }
         ensures is { result ≡ cells.cut_sum S.ring (cells.cell_at S.ring self.now.span.cells self.now.slots.now) self.now.span.begin self.now.span.end key.left key.right }
-        ensures known { Known S.ring self.now.span self.now.slots.now sums.new }
+        ensures known { Noted S.ring self.now.span self.now.slots.now sums.new }
     {
         if let Some(sum) = self.found_sum(sums, key) {
             return sum;

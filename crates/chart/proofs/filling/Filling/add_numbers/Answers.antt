@@ -17,7 +17,7 @@ loop-number-preserved g c =
     record {
       rows = λ xs before.
           row_more g.met.W.Value.Semiring.laws weigh m f.last.bits s.begin s.end xs l.number l.slots (l.invariant.rows xs before) zs s.some
-          (subst (λ n. Room n s.end (length l.slots)) f.own l.invariant.known.room)
+          (subst (λ n. Room n s.end (length l.slots)) f.own l.invariant.known.here.room)
           (g.G.Grammar.shown f.grammar.now)
           (subst (λ n. zs ≡ with_any ring weigh n f.last.bits s.begin s.end l.slots (m.rule l.number)) f.own c.add_number.ensures.added);
       known = c.add_number.ensures.known;

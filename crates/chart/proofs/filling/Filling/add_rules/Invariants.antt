@@ -1,7 +1,7 @@
 use Rattle.std.proofs.Common.{◌≡◌, take, fold}
 use Rattle.grammar.specs.Totals.{by}
 use Rattle.chart.specs.Columns.{with_rule}
-use Rattle.chart.specs.Sums.{Known}
+use Rattle.chart.specs.Sums.{Noted}
 use Rattle.chart.proofs.filling.Filling.add_rules.Given as goal
 
 abbrev pub invariant-loop-rule : goal.invariant-loop-rule
@@ -10,5 +10,5 @@ invariant-loop-rule g l =
     let s = f.span in
     let ring = g.W.Value.Semiring.ring in record {
       added : l.slots ≡ fold (with_rule ring (by (g.W.Weighing.weight f.weighing.now)) s.cells f.last.bits s.begin s.end) l.initial.slots (take l.rule-index f.rules.now);
-      known : Known ring s l.slots l.sums;
+      known : Noted ring s l.slots l.sums;
     }

@@ -1,14 +1,13 @@
 -- Known sums stay right while the span is filled. Assumes nothing.
-use Rattle.std.proofs.Common.{ℕ, ◌+◌, ◌<◌, ◌==◌, List, length, sym, ◌∙◌, subst, arith, eqb-true}
+use Rattle.std.proofs.Common.{ℕ, ◌<◌, List, sym, ◌∙◌, subst, arith}
 use Rattle.std.proofs.lemmas.List.{length-set, get_or-set_other}
 use Rattle.semiring.specs.Semirings.{Operations, Laws}
 use Rattle.chart.specs.Cells.{place, cell_at, added, Room}
-use Rattle.chart.specs.Sums.{Later, KnownAt, Known, Noted}
+use Rattle.chart.specs.Sums.{Known, Noted}
 use Rattle.chart.specs.declared.span.Span.{Span}
 use Rattle.chart.specs.declared.sums.Sum.{Sum}
 use Rattle.chart.proofs.Places.{place_narrow, place_later}
 use Rattle.chart.proofs.Rows.{Agree, cut_sum_same}
-use Rattle.chart.proofs.Noting.{all_kept}
 
 module _ {S : Type 0} {ops : Operations S} (laws : Laws ops) where
   module _ (span : Span) where
@@ -22,17 +21,6 @@ module _ {S : Type 0} {ops : Operations S} (laws : Laws ops) where
           sym (get_or-set_other xs at (place n span.begin k c) _ ops.zero (λ e. omega (arith, e, place_narrow n span.begin k c span.begin span.end a l1 l2 hc))),
           sym (get_or-set_other xs at (place n k span.end c) _ ops.zero (λ e. omega (arith, e, place_later n span.begin k span.end a c l1 ha))),
         )
-
-    -- where all sums are of spans that begin later, none is of this one yet
-    pub noted_later : (xs : List S) (sums : List (Sum S)) → Room n span.end (length xs) → Later (span.begin + 1) sums → Noted ops span xs sums
-    noted_later xs sums room later = record {
-      later = λ i d h. omega (arith, later i d h);
-      here = record {
-        room = room;
-        each = all_kept (λ sum. KnownAt ops span xs sum.key sum.value) (λ sum. sum.begin == span.begin) sums
-            (λ i d h here. absurd (omega (arith, eqb-true _ _ here, later i d h)));
-      };
-    }
 
     pub known_added : (a : ℕ) (v : S) (xs : List S) (sums : List (Sum S)) → a < n
         → Known ops span xs sums → Known ops span (added ops n xs span.begin span.end a v) sums

@@ -5,11 +5,11 @@ use Rattle.chart.specs.Cells.{Room}
 use Rattle.chart.specs.Columns.{Row, with_rule}
 use Rattle.chart.specs.Gathers.{rules_below}
 use Rattle.chart.proofs.Rows.{row_below}
-use Rattle.chart.proofs.Summing.{noted_later}
+use Rattle.chart.proofs.Noting.{noted_later}
 use Rattle.chart.proofs.filling.Filling.fill_row.Goals as goal
 
 pub add_rules-requires : goal.add_rules-requires
-add_rules-requires g c = record { known = noted_later g.met.W.Value.Semiring.laws c.args.self.now.span c.args.slots.now c.args.sums.now c.requires.room c.requires.later }
+add_rules-requires g c = record { known = noted_later g.W.Value.Semiring.ring c.args.self.now.span c.args.slots.now c.args.sums.now c.requires.room c.requires.later }
 
 pub returns-clause-row : goal.returns-clause-row
 returns-clause-row g c =
